@@ -1,0 +1,82 @@
+-- THEOREM examples. The records of paper 01 with known answers, computed from the definitions: one table, one theorem.
+-- Beside paper 01's rows: baababb tells "join at |r|" from "join below |r|"; the word of 31 letters joins twice, one join
+-- inside the other; aaab and cbabcbad tell the shortest r from the longest.
+use mathlib.Core.Path.{_≡_, refl}
+use mathlib.Core.List.{List, [], _∷_, map}
+use Prim.Native.Nat.{ℕ}
+use lib.IntN.{ℤ, pos, negsuc}
+use Rattle.words.specs.Words.{sign}
+use Rattle.words.specs.Factorizations.{failingLength, prefixLength, borderLength, icflEnds, cflInEnds, lyndonTable}
+
+pub data Question : Type 0 where
+  cuts : List ℕ → Question
+  table : List ℕ → Question
+  test : List ℕ → Question
+  comparison : List ℕ → (first end start other : ℕ) → Question
+
+pub data Answer : Type 0 where
+  ends : (pieces strict : List ℕ) → Answer
+  lengths : List ℕ → Answer
+  fails : (failing prefix border : ℕ) → Answer
+  signed : ℤ → Answer
+
+unfoldable pub answer : Question → Answer
+unfolding icflEnds cflInEnds lyndonTable failingLength prefixLength borderLength sign
+answer (cuts w) = ends (icflEnds w) (cflInEnds w)
+answer (table w) = lengths (lyndonTable w)
+answer (test w) = fails (failingLength w) (prefixLength w) (borderLength w)
+answer (comparison w first end start other) = signed (sign w first end start other)
+
+-- ---- the table: letters stand for their ASCII codes
+
+abbrev a : ℕ
+a = 97
+
+abbrev b : ℕ
+b = 98
+
+abbrev c : ℕ
+c = 99
+
+abbrev d : ℕ
+d = 100
+
+infix 20 _gives_
+pub data Row : Type 0 where
+  _gives_ : Question → Answer → Row
+
+abbrev pub question : Row → Question
+question (q gives e) = q
+
+abbrev pub expected : Row → Answer
+expected (q gives e) = e
+
+abbrev pub rows : List Row
+rows =
+    (cuts (a ∷ []) gives ends (1 ∷ []) (1 ∷ []))
+    ∷ (cuts (a ∷ a ∷ a ∷ []) gives ends (3 ∷ []) (1 ∷ 2 ∷ 3 ∷ []))
+    ∷ (cuts (a ∷ b ∷ []) gives ends (1 ∷ 2 ∷ []) (1 ∷ 2 ∷ []))
+    ∷ (cuts (b ∷ a ∷ []) gives ends (2 ∷ []) (2 ∷ []))
+    ∷ (cuts (a ∷ b ∷ c ∷ []) gives ends (1 ∷ 2 ∷ 3 ∷ []) (1 ∷ 2 ∷ 3 ∷ []))
+    ∷ (cuts (b ∷ a ∷ b ∷ a ∷ []) gives ends (4 ∷ []) (2 ∷ 4 ∷ []))
+    ∷ (cuts (b ∷ b ∷ a ∷ b ∷ b ∷ a ∷ b ∷ b ∷ b ∷ []) gives ends (6 ∷ 9 ∷ []) (3 ∷ 6 ∷ 7 ∷ 8 ∷ 9 ∷ []))
+    ∷ (cuts (c ∷ b ∷ a ∷ b ∷ a ∷ c ∷ b ∷ a ∷ c ∷ []) gives ends (5 ∷ 9 ∷ []) (5 ∷ 8 ∷ 9 ∷ []))
+    ∷ (cuts (c ∷ b ∷ a ∷ b ∷ a ∷ c ∷ a ∷ a ∷ c ∷ b ∷ a ∷ b ∷ a ∷ c ∷ b ∷ a ∷ c ∷ []) gives ends (13 ∷ 17 ∷ []) (8 ∷ 13 ∷ 16 ∷ 17 ∷ []))
+    ∷ (cuts (d ∷ a ∷ b ∷ a ∷ d ∷ a ∷ b ∷ d ∷ a ∷ b ∷ d ∷ a ∷ d ∷ a ∷ c ∷ []) gives ends (4 ∷ 10 ∷ 15 ∷ []) (4 ∷ 7 ∷ 10 ∷ 15 ∷ []))
+    ∷ (cuts (d ∷ a ∷ b ∷ d ∷ a ∷ d ∷ a ∷ c ∷ d ∷ d ∷ b ∷ d ∷ c ∷ []) gives ends (3 ∷ 8 ∷ 13 ∷ []) (3 ∷ 8 ∷ 13 ∷ []))
+    ∷ (cuts (b ∷ a ∷ a ∷ b ∷ a ∷ b ∷ b ∷ []) gives ends (5 ∷ 7 ∷ []) (3 ∷ 5 ∷ 6 ∷ 7 ∷ []))
+    ∷ (cuts (c ∷ b ∷ a ∷ b ∷ a ∷ c ∷ a ∷ a ∷ c ∷ b ∷ a ∷ b ∷ a ∷ a ∷ c ∷ b ∷ a ∷ b ∷ a ∷ c ∷ a ∷ a ∷ c ∷ b ∷ a ∷ b ∷ a ∷ c ∷ b ∷ a ∷ c ∷ []) gives ends (27 ∷ 31 ∷ []) (14 ∷ 22 ∷ 27 ∷ 30 ∷ 31 ∷ []))
+    ∷ (table (c ∷ b ∷ a ∷ b ∷ a ∷ c ∷ b ∷ a ∷ c ∷ []) gives lengths (5 ∷ 2 ∷ 1 ∷ 2 ∷ 1 ∷ 3 ∷ 2 ∷ 1 ∷ 1 ∷ []))
+    ∷ (test (c ∷ b ∷ a ∷ b ∷ a ∷ c ∷ b ∷ a ∷ c ∷ []) gives fails 9 5 3)
+    ∷ (test (c ∷ b ∷ a ∷ b ∷ a ∷ c ∷ a ∷ a ∷ c ∷ b ∷ a ∷ b ∷ a ∷ c ∷ b ∷ a ∷ c ∷ []) gives fails 15 8 6)
+    ∷ (test (a ∷ a ∷ a ∷ b ∷ []) gives fails 4 3 0)
+    ∷ (test (c ∷ b ∷ a ∷ b ∷ c ∷ b ∷ a ∷ d ∷ []) gives fails 8 7 0)
+    ∷ (comparison (c ∷ b ∷ a ∷ b ∷ a ∷ c ∷ b ∷ a ∷ c ∷ []) 0 9 0 5 gives signed (pos 1))
+    ∷ (comparison (c ∷ b ∷ a ∷ b ∷ a ∷ c ∷ b ∷ a ∷ c ∷ []) 5 9 5 8 gives signed (pos 1))
+    ∷ (comparison (b ∷ b ∷ a ∷ []) 0 2 0 1 gives signed (pos 1))
+    ∷ (comparison (b ∷ b ∷ a ∷ []) 0 3 0 1 gives signed (negsuc 0))
+    ∷ []
+
+pub examples : map (λ r. answer (question r)) rows ≡ map expected rows
+unfolding answer
+examples = refl

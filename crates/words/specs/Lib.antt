@@ -1,0 +1,10 @@
+pub mod Words
+pub mod Factorizations
+pub mod Statements
+pub mod Examples
+pub mod PrefixLaws
+pub mod MismatchLaws
+pub mod LexLaws
+pub mod InverseLaws
+pub mod Decisions
+pub mod WordTests

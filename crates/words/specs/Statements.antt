@@ -1,0 +1,61 @@
+-- DEFINITIONS. What is said of a list of words, and demand 3 of a word. The product of a list of words is the library's flatten.
+use mathlib.Core.Path.{_≡_}
+use mathlib.Core.Logic.{_⊎_}
+use mathlib.Core.List.{List, [], _∷_, _++_, flatten, List·Memᴰ}
+use Prim.Native.Nat.{ℕ, _≤_, _<_}
+use lib.ListN.{length}
+use lib.Seq.{slice}
+use Rattle.words.specs.Words.{_≪_, _⊑_, _<ₗ_, _≺_, AntiLyndon, sign}
+use Rattle.words.specs.Factorizations.{icflEnds, cflInEnds}
+
+-- m has R to the first word of the list, if there is one
+pub data Next (R : List ℕ → List ℕ → Type 0) (m : List ℕ) : List (List ℕ) → Type 0 where
+  end : Next R m []
+  by : {n : List ℕ} {ns : List (List ℕ)} → R m n → Next R m (n ∷ ns)
+
+-- every word has P, and each has R to the next
+pub data Linked (P : List ℕ → Type 0) (R : List ℕ → List ℕ → Type 0) : List (List ℕ) → Type 0 where
+  none : Linked P R []
+  more : {m : List ℕ} {ms : List (List ℕ)} → P m → Next R m ms → Linked P R ms → Linked P R (m ∷ ms)
+
+abbrev pub EqualOrAfter : List ℕ → List ℕ → Type 0
+EqualOrAfter l m = (l ≡ m) ⊎ (m ≺ l)
+
+-- strict cut: "division into strict words in which each word is equal to the next one or comes after it in the inverse order"
+pub record CflInOf (w : List ℕ) (ls : List (List ℕ)) : Type 0 where
+  pub product : flatten ls ≡ w
+  pub words : Linked AntiLyndon EqualOrAfter ls
+
+-- every nonempty suffix of m, m itself too, is below n by a mismatch
+abbrev pub DominatedBy : List ℕ → List ℕ → Type 0
+DominatedBy m n = (u s : List ℕ) → u ++ s ≡ m → 0 < length s → s ≪ n
+
+-- request 109: "each loses to the next at a shared byte, and no nonempty proper beginning of a piece that also ends it
+-- begins the next"
+abbrev pub BelowByBorders : List ℕ → List ℕ → Type 0
+BelowByBorders m n = (m ≪ n) × ((u s : List ℕ) → u ++ s ≡ m → 0 < length u → 0 < length s → s ⊑ m → ¬ (s ⊑ n))
+
+-- j follows i in the list
+pub data Adjacent (i j : ℕ) : List ℕ → Type 0 where
+  here : {es : List ℕ} → Adjacent i j (i ∷ j ∷ es)
+  there : {e : ℕ} {es : List ℕ} → Adjacent i j es → Adjacent i j (e ∷ es)
+
+-- "The pieces of a record lie between neighbouring ends of its piece cut, the first from place 0"; so do the strict pieces
+abbrev pub Part : List ℕ → ℕ → ℕ → Type 0
+Part es i j = Adjacent i j (0 ∷ es)
+
+pub record Demand3 (w : List ℕ) : Type 0 where
+  -- "For every stretch of whole neighbouring pieces and every two different starting minutes inside it, the inverse order
+  -- found from that stretch alone is exactly the one found when both run to the record's end."
+  pub compatible : (first end start other : ℕ) → List·Memᴰ first (0 ∷ icflEnds w) → List·Memᴰ end (icflEnds w)
+      → first ≤ start → start < end → first ≤ other → other < end → ¬ (start ≡ other)
+      → sign w first end start other ≡ sign w 0 (length w) start other
+  -- "In natural byte order each piece exceeds every shorter ending of its own"
+  pub exceeds : (i j : ℕ) → Part (icflEnds w) i j → (u s : List ℕ) → u ++ s ≡ slice i j w → 0 < length u → 0 < length s → s <ₗ slice i j w
+  -- "and each but the last loses to the next piece at a byte that both have."
+  pub loses : (i j k : ℕ) → Part (icflEnds w) i j → Part (icflEnds w) j k → slice i j w ≪ slice j k w
+  -- "Every piece ends where a strict piece ends"
+  pub strict : (e : ℕ) → List·Memᴰ e (icflEnds w) → List·Memᴰ e (cflInEnds w)
+  -- "and wherever a strict piece and the one after it lie in one piece, the first begins with the whole of the second."
+  pub nested : (a b i j k : ℕ) → Part (icflEnds w) a b → Part (cflInEnds w) i j → Part (cflInEnds w) j k → a ≤ i → k ≤ b
+      → slice j k w ⊑ slice i j w
