@@ -8,3 +8,13 @@ pub mod LexLaws
 pub mod InverseLaws
 pub mod Decisions
 pub mod WordTests
+pub mod Suffixes
+pub mod DominatedUnique
+pub mod Extension
+pub mod Failing
+pub mod Border
+pub mod IcflFactors
+pub mod IcflConcat
+pub mod IcflDominated
+pub mod IcflUnique
+pub mod IcflUnfold
