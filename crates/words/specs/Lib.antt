@@ -18,3 +18,5 @@ pub mod IcflConcat
 pub mod IcflDominated
 pub mod IcflUnique
 pub mod IcflUnfold
+pub mod AntiLyndonLaws
+pub mod FirstSuffixes
