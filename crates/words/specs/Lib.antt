@@ -20,3 +20,6 @@ pub mod IcflUnique
 pub mod IcflUnfold
 pub mod AntiLyndonLaws
 pub mod FirstSuffixes
+pub mod CflInIs
+pub mod CflInUnique
+pub mod CflInUnfold
