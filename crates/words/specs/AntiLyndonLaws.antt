@@ -1,14 +1,14 @@
 -- Laws of anti-Lyndon words: letters, products, and the longest anti-Lyndon prefix.
 use mathlib.Core.Path.{_≡_, sym, subst}
-use mathlib.Core.Logic.{_⊎_, inl, inr}
+use mathlib.Core.Logic.{inl, inr}
 use mathlib.Core.List.{List, [], _∷_, _++_}
 use mathlib.Core.Bool.{Bool, true, false}
 use Prim.Native.Nat.{ℕ, zero, suc, _≤_, _<_}
 use native.Mathlib.Omega.{arith}
 use native.Mathlib.Nat.{le-refl}
 use native.Mathlib.Decide.{decLt}
-use lib.ListN.{length, take, drop, length-append, length-drop, drop-of-length-le}
-use Rattle.words.specs.Words.{_≪_, _⊑_, done, _≺_, proper, prefix, mismatch, InverseLyndon, AntiLyndon, isAntiLyndon}
+use lib.ListN.{length, take, drop, length-append, drop-of-length-le}
+use Rattle.words.specs.Words.{_≪_, done, _≺_, proper, prefix, mismatch, InverseLyndon, AntiLyndon}
 use Rattle.words.specs.Factorizations.{longestWithin, longestAntiLyndon}
 use Rattle.words.specs.PrefixLaws.{⊑-refl, ⊑-append, ⊑-split, ⊑-whole}
 use Rattle.words.specs.MismatchLaws.{≪-trans, ≪-append, ≪-extend, ≪-under, Compared, less, greater, within, beyond, compared, Tri, lt, eq, gt, tri}
@@ -60,10 +60,6 @@ not-append {u} {v} s t n = go (compared v u)
     go (within h) = pre h
     go (beyond h l) = absurd (n (append-anti-lyndon s t (prefix (proper h l))))
 
-pub equal-or-after-≼ : {l m : List ℕ} → EqualOrAfter l m → m ≼ l
-equal-or-after-≼ {l} {m} (inl e) = rw e (≼-refl m)
-equal-or-after-≼ (inr h) = ≺-≼ h
-
 pub ≼-equal-or-after : {l m : List ℕ} → m ≼ l → EqualOrAfter l m
 ≼-equal-or-after (won h) = inr (mismatch h)
 ≼-equal-or-after {l} {m} (pre h) = go (decLt (length m) (length l))
@@ -71,6 +67,10 @@ pub ≼-equal-or-after : {l m : List ℕ} → m ≼ l → EqualOrAfter l m
     go : Dec (length m < length l) → EqualOrAfter l m
     go (yes k) = inr (prefix (proper h k))
     go (no k) = inl (sym (⊑-whole h (omega arith)))
+
+pub equal-or-after-≼ : {l m : List ℕ} → EqualOrAfter l m → m ≼ l
+equal-or-after-≼ {l} {m} (inl e) = rw e (≼-refl m)
+equal-or-after-≼ (inr h) = ≺-≼ h
 
 -- ---- the longest anti-Lyndon prefix
 

@@ -1,5 +1,5 @@
 -- THEOREM cfl-in-is. The computed strict cut is a division of the paper's kind (source 004, Theorem 2.1 for the inverse order).
-use mathlib.Core.Path.{_≡_, refl}
+use mathlib.Core.Path.{refl}
 use mathlib.Core.List.{List, [], _∷_, _++_, flatten}
 use Prim.Native.Nat.{ℕ, zero, suc, _+_, _≤_, _<_}
 use native.Mathlib.Nat.{le-refl}
@@ -8,7 +8,7 @@ use lib.ListN.{length, take, drop, length-drop, take-append-drop}
 use lib.Seq.{take-add}
 use Rattle.words.specs.Words.{AntiLyndon}
 use Rattle.words.specs.Factorizations.{longestAntiLyndon, cflIn, cflInWithin}
-use Rattle.words.specs.Statements.{EqualOrAfter, Next, end, by, Linked, none, more, CflInOf}
+use Rattle.words.specs.Statements.{EqualOrAfter, Next, end, by, none, more, CflInOf}
 use Rattle.words.specs.InverseLaws.{_≼_}
 use Rattle.words.specs.AntiLyndonLaws.{not-append, ≼-equal-or-after, Longest, longest-is, longest-positive}
 
@@ -34,7 +34,7 @@ within-cfl-in (suc k) (a ∷ w) l =
     let s : AntiLyndon (take n (a ∷ w)) = x .word p in
     let rest : CflInOf (drop n (a ∷ w)) (cflInWithin k (drop n (a ∷ w))) = within-cfl-in k (drop n (a ∷ w)) (rw length-drop (omega arith)) in
     let longer : (j : ℕ) → 0 < j → j ≤ length (drop n (a ∷ w)) → ¬ AntiLyndon (take n (a ∷ w) ++ take j (drop n (a ∷ w)))
-          = λ j c d. rw (← take-add n j (a ∷ w)) (x .longer (n + j) (omega arith) (omega (arith, x .upto, simp length-drop at d))) in
+    = λ j c d. rw (← take-add n j (a ∷ w)) (x .longer (n + j) (omega arith) (omega (arith, x .upto, simp length-drop at d))) in
     record {
       product = rw (rest .product) (take-append-drop n (a ∷ w));
       words = more s (within-next k (drop n (a ∷ w)) (take n (a ∷ w)) (λ j c d t. not-append s t (longer j c d))) (rest .words);

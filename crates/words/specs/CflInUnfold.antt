@@ -1,7 +1,7 @@
 -- The bound of cflInWithin does not matter: cflIn is the longest anti-Lyndon prefix, then cflIn of the rest.
-use mathlib.Core.Path.{_≡_, refl, sym}
+use mathlib.Core.Path.{_≡_, refl}
 use mathlib.Core.List.{List, [], _∷_}
-use Prim.Native.Nat.{ℕ, suc, _≤_, _<_}
+use Prim.Native.Nat.{ℕ, _≤_, _<_}
 use native.Mathlib.Omega.{arith}
 use lib.ListN.{length, take, drop, length-drop}
 use Rattle.words.specs.Factorizations.{longestAntiLyndon, cflIn, cflInWithin}

@@ -1,21 +1,21 @@
 -- THEOREM cfl-in-unique. A strict cut of w in the paper's sense is the computed one. Its first word is the longest anti-Lyndon
 -- prefix of w (first-longest), since what follows it comes no later than w.
-use mathlib.Core.Path.{_≡_, refl, ap, sym, _∙_}
+use mathlib.Core.Path.{_≡_, refl, ap, _∙_}
 use mathlib.Core.List.{List, [], _∷_, _++_, flatten}
-use Prim.Native.Nat.{ℕ, zero, suc, _+_, _≤_, _<_, zero-le}
+use Prim.Native.Nat.{ℕ, zero, suc, _≤_, _<_, zero-le}
 use native.Mathlib.Nat.{le-refl, add-zero}
 use native.Mathlib.Omega.{arith}
-use lib.ListN.{length, take, drop, length-append}
+use lib.ListN.{length, take, length-append}
 use lib.Seq.{take-at, drop-at, length-take-le}
-use Rattle.words.specs.Words.{_≪_, AntiLyndon}
+use Rattle.words.specs.Words.{AntiLyndon}
 use Rattle.words.specs.Factorizations.{longestAntiLyndon, cflIn, cflInWithin}
-use Rattle.words.specs.Statements.{EqualOrAfter, Linked, none, more, CflInOf}
+use Rattle.words.specs.Statements.{EqualOrAfter, Linked, more, CflInOf}
 use Rattle.words.specs.PrefixLaws.{take-⊑, ⊑-drop}
 use Rattle.words.specs.MismatchLaws.{≪-extend}
 use Rattle.words.specs.InverseLaws.{≼-not-≪}
 use Rattle.words.specs.WordTests.{suffix-loses}
 use Rattle.words.specs.AntiLyndonLaws.{longest-unique}
-use Rattle.words.specs.FirstSuffixes.{FirstSuffix, Boundary, start, later, boundary-first, anti-led}
+use Rattle.words.specs.FirstSuffixes.{FirstSuffix, start, later, boundary-first, anti-led}
 
 pub first-longest : (l : List ℕ) (ls : List (List ℕ)) → Linked AntiLyndon EqualOrAfter (l ∷ ls) → longestAntiLyndon (l ++ flatten ls) ≡ length l
 unfolding flatten

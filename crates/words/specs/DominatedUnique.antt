@@ -7,8 +7,8 @@ use native.Mathlib.Nat.{le-refl}
 use native.Mathlib.Omega.{arith}
 use lib.ListN.{length, length-append}
 use lib.Seq.{drop-append-seam}
-use Rattle.words.specs.Words.{_≪_, _⊑_, InverseLyndon}
-use Rattle.words.specs.Statements.{DominatedBy, Next, end, by, Linked, none, more}
+use Rattle.words.specs.Words.{_⊑_, InverseLyndon}
+use Rattle.words.specs.Statements.{DominatedBy, Next, by, Linked, more}
 use Rattle.words.specs.PrefixLaws.{⊑-append, ⊑-length, ⊑-whole}
 use Rattle.words.specs.MismatchLaws.{≪-extend}
 use Rattle.words.specs.LexLaws.{≤ₗ-not-≪}

@@ -51,21 +51,24 @@ question (q gives e) = q
 abbrev pub expected : Row → Answer
 expected (q gives e) = e
 
+abbrev twoJoins : List ℕ
+twoJoins = c ∷ b ∷ a ∷ b ∷ a ∷ c ∷ a ∷ a ∷ c ∷ b ∷ a ∷ b ∷ a ∷ a ∷ c ∷ b ∷ a ∷ b ∷ a ∷ c ∷ a ∷ a ∷ c ∷ b ∷ a ∷ b ∷ a ∷ c ∷ b ∷ a ∷ c ∷ []
+
 abbrev pub rows : List Row
 rows =
-    (cuts (a ∷ []) gives ends (1 ∷ []) (1 ∷ []))
-    ∷ (cuts (a ∷ a ∷ a ∷ []) gives ends (3 ∷ []) (1 ∷ 2 ∷ 3 ∷ []))
-    ∷ (cuts (a ∷ b ∷ []) gives ends (1 ∷ 2 ∷ []) (1 ∷ 2 ∷ []))
-    ∷ (cuts (b ∷ a ∷ []) gives ends (2 ∷ []) (2 ∷ []))
-    ∷ (cuts (a ∷ b ∷ c ∷ []) gives ends (1 ∷ 2 ∷ 3 ∷ []) (1 ∷ 2 ∷ 3 ∷ []))
-    ∷ (cuts (b ∷ a ∷ b ∷ a ∷ []) gives ends (4 ∷ []) (2 ∷ 4 ∷ []))
-    ∷ (cuts (b ∷ b ∷ a ∷ b ∷ b ∷ a ∷ b ∷ b ∷ b ∷ []) gives ends (6 ∷ 9 ∷ []) (3 ∷ 6 ∷ 7 ∷ 8 ∷ 9 ∷ []))
-    ∷ (cuts (c ∷ b ∷ a ∷ b ∷ a ∷ c ∷ b ∷ a ∷ c ∷ []) gives ends (5 ∷ 9 ∷ []) (5 ∷ 8 ∷ 9 ∷ []))
-    ∷ (cuts (c ∷ b ∷ a ∷ b ∷ a ∷ c ∷ a ∷ a ∷ c ∷ b ∷ a ∷ b ∷ a ∷ c ∷ b ∷ a ∷ c ∷ []) gives ends (13 ∷ 17 ∷ []) (8 ∷ 13 ∷ 16 ∷ 17 ∷ []))
-    ∷ (cuts (d ∷ a ∷ b ∷ a ∷ d ∷ a ∷ b ∷ d ∷ a ∷ b ∷ d ∷ a ∷ d ∷ a ∷ c ∷ []) gives ends (4 ∷ 10 ∷ 15 ∷ []) (4 ∷ 7 ∷ 10 ∷ 15 ∷ []))
-    ∷ (cuts (d ∷ a ∷ b ∷ d ∷ a ∷ d ∷ a ∷ c ∷ d ∷ d ∷ b ∷ d ∷ c ∷ []) gives ends (3 ∷ 8 ∷ 13 ∷ []) (3 ∷ 8 ∷ 13 ∷ []))
+    (cuts (a ∷ []) gives ends (1 ∷ []) (1 ∷ []))  -- A
+    ∷ (cuts (a ∷ a ∷ a ∷ []) gives ends (3 ∷ []) (1 ∷ 2 ∷ 3 ∷ []))  -- B
+    ∷ (cuts (a ∷ b ∷ []) gives ends (1 ∷ 2 ∷ []) (1 ∷ 2 ∷ []))  -- C
+    ∷ (cuts (b ∷ a ∷ []) gives ends (2 ∷ []) (2 ∷ []))  -- D
+    ∷ (cuts (a ∷ b ∷ c ∷ []) gives ends (1 ∷ 2 ∷ 3 ∷ []) (1 ∷ 2 ∷ 3 ∷ []))  -- E
+    ∷ (cuts (b ∷ a ∷ b ∷ a ∷ []) gives ends (4 ∷ []) (2 ∷ 4 ∷ []))  -- F
+    ∷ (cuts (b ∷ b ∷ a ∷ b ∷ b ∷ a ∷ b ∷ b ∷ b ∷ []) gives ends (6 ∷ 9 ∷ []) (3 ∷ 6 ∷ 7 ∷ 8 ∷ 9 ∷ []))  -- G
+    ∷ (cuts (c ∷ b ∷ a ∷ b ∷ a ∷ c ∷ b ∷ a ∷ c ∷ []) gives ends (5 ∷ 9 ∷ []) (5 ∷ 8 ∷ 9 ∷ []))  -- H
+    ∷ (cuts (c ∷ b ∷ a ∷ b ∷ a ∷ c ∷ a ∷ a ∷ c ∷ b ∷ a ∷ b ∷ a ∷ c ∷ b ∷ a ∷ c ∷ []) gives ends (13 ∷ 17 ∷ []) (8 ∷ 13 ∷ 16 ∷ 17 ∷ []))  -- I
+    ∷ (cuts (d ∷ a ∷ b ∷ a ∷ d ∷ a ∷ b ∷ d ∷ a ∷ b ∷ d ∷ a ∷ d ∷ a ∷ c ∷ []) gives ends (4 ∷ 10 ∷ 15 ∷ []) (4 ∷ 7 ∷ 10 ∷ 15 ∷ []))  -- J
+    ∷ (cuts (d ∷ a ∷ b ∷ d ∷ a ∷ d ∷ a ∷ c ∷ d ∷ d ∷ b ∷ d ∷ c ∷ []) gives ends (3 ∷ 8 ∷ 13 ∷ []) (3 ∷ 8 ∷ 13 ∷ []))  -- K
     ∷ (cuts (b ∷ a ∷ a ∷ b ∷ a ∷ b ∷ b ∷ []) gives ends (5 ∷ 7 ∷ []) (3 ∷ 5 ∷ 6 ∷ 7 ∷ []))
-    ∷ (cuts (c ∷ b ∷ a ∷ b ∷ a ∷ c ∷ a ∷ a ∷ c ∷ b ∷ a ∷ b ∷ a ∷ a ∷ c ∷ b ∷ a ∷ b ∷ a ∷ c ∷ a ∷ a ∷ c ∷ b ∷ a ∷ b ∷ a ∷ c ∷ b ∷ a ∷ c ∷ []) gives ends (27 ∷ 31 ∷ []) (14 ∷ 22 ∷ 27 ∷ 30 ∷ 31 ∷ []))
+    ∷ (cuts twoJoins gives ends (27 ∷ 31 ∷ []) (14 ∷ 22 ∷ 27 ∷ 30 ∷ 31 ∷ []))
     ∷ (table (c ∷ b ∷ a ∷ b ∷ a ∷ c ∷ b ∷ a ∷ c ∷ []) gives lengths (5 ∷ 2 ∷ 1 ∷ 2 ∷ 1 ∷ 3 ∷ 2 ∷ 1 ∷ 1 ∷ []))
     ∷ (test (c ∷ b ∷ a ∷ b ∷ a ∷ c ∷ b ∷ a ∷ c ∷ []) gives fails 9 5 3)
     ∷ (test (c ∷ b ∷ a ∷ b ∷ a ∷ c ∷ a ∷ a ∷ c ∷ b ∷ a ∷ b ∷ a ∷ c ∷ b ∷ a ∷ c ∷ []) gives fails 15 8 6)

@@ -2,7 +2,7 @@
 -- inverse Lyndon itself, the shortest such suffix (source 004, Definition 4.2: r b is the bounded right extension of p).
 -- Main laws: a dominated factorization of r b q gives one of the whole by joinFirst (join-first-dominated, join-first-product).
 use mathlib.Core.Path.{_≡_, ap, sym, subst}
-use mathlib.Core.List.{List, [], _∷_, _++_, flatten, append-assoc, append-nil}
+use mathlib.Core.List.{List, [], _∷_, _++_, flatten, append-assoc}
 use mathlib.Core.Bool.{Bool, true, false}
 use Prim.Native.Nat.{ℕ, _≤_, _<_}
 use native.Mathlib.Omega.{arith}
@@ -10,10 +10,10 @@ use lib.ListN.{length, drop, length-append, length-drop}
 use lib.Seq.{drop-append-le, drop-append-seam}
 use Rattle.words.specs.Words.{_≪_, _⊑_, done, step, InverseLyndon}
 use Rattle.words.specs.Factorizations.{joinFirst}
-use Rattle.words.specs.Statements.{DominatedBy, Next, end, by, Linked, none, more}
+use Rattle.words.specs.Statements.{DominatedBy, Next, end, by, Linked, more}
 use Rattle.words.specs.PrefixLaws.{⊑-refl, ⊑-trans, ⊑-both, ⊑-append, ⊑-drop, ⊑-under, ⊑-split}
 use Rattle.words.specs.MismatchLaws.{≪-asym, ≪-not-⊑, ≪-extend, ≪-cancel, ≪-left-nonempty, Compared, less, greater, within, beyond, compared}
-use Rattle.words.specs.LexLaws.{_≤ₗ_, lost, pre, ≤ₗ-not-≪, ≤ₗ-≪-long, ≤ₗ-≪-prefix, ≤ₗ-prefixes}
+use Rattle.words.specs.LexLaws.{_≤ₗ_, pre, ≤ₗ-not-≪, ≤ₗ-≪-long, ≤ₗ-≪-prefix, ≤ₗ-prefixes}
 use Rattle.words.specs.Decisions.{Decides, holds, fails, leb-test}
 use Rattle.words.specs.WordTests.{suffix-below, inverse-lyndon}
 use Rattle.words.specs.Suffixes.{Begins, first, second, begins, dominated-at, dominated}

@@ -5,14 +5,14 @@
 use mathlib.Core.Path.{_≡_, ap, sym, _∙_}
 use mathlib.Core.Logic.{_⊎_, inl, inr}
 use mathlib.Core.List.{List, [], _∷_, _++_, append-assoc}
-use mathlib.Core.Bool.{Bool, true, false, not}
+use mathlib.Core.Bool.{Bool, not}
 use Prim.Native.Nat.{ℕ, zero, suc, _+_, _-_, _≤_, _<_}
 use native.Mathlib.Omega.{arith}
 use native.Mathlib.Decide.{decLt}
 use lib.ListN.{length, take, drop, getD, length-drop, take-append-drop, drop-of-length-le}
 use lib.Seq.{drop-drop, drop-cons, drop-at, take-add, take-suc, take-length, length-take-le}
-use Rattle.words.specs.Words.{_≪_, done, _⊏_, proper, _<ₗ_, prefix, mismatch, InverseLyndon, isLexLess, isInverseLyndon}
-use Rattle.words.specs.Factorizations.{failingLength, least}
+use Rattle.words.specs.Words.{_≪_, done, proper, _<ₗ_, prefix, mismatch, InverseLyndon, isLexLess, isInverseLyndon}
+use Rattle.words.specs.Factorizations.{failingLength}
 use Rattle.words.specs.LexLaws.{_≤ₗ_, pre, ≤ₗ-refl, ≤ₗ-≪-trans, <ₗ-≤ₗ, <ₗ-total}
 use Rattle.words.specs.MismatchLaws.{≪-asym}
 use Rattle.words.specs.Decisions.{Decides, holds, fails, decides-not, Least, found, never, least-is, least-unique}
@@ -85,13 +85,16 @@ shortest-is u s n = go (least-is (λ r. u <ₗ lastLetters u r) (λ r. isLexLess
         near (no b) = rw (drop-of-length-le u {i = k} (omega arith)) (pre done)
 
     go : {m : ℕ} → Least (λ r. u <ₗ lastLetters u r) (length u) 0 m → (r : ℕ) × Shortest u r
-    go {m} (found p a b h) = (m, record {
-      inside = omega arith;
-      above = above m p;
-      shorter = λ k l. below m h k (omega arith);
-      word = inverse-lyndon (rw length-drop (omega arith))
-      (λ k. elim k [ zero ↦ ≤ₗ-refl _ | suc j ↦ rw drop-drop (≤ₗ-≪-trans (below m h (length u - suc m + suc j) (omega arith)) (above m p)) ]);
-    })
+    go {m} (found p a b h) = (
+      m,
+      record {
+        inside = omega arith;
+        above = above m p;
+        shorter = λ k l. below m h k (omega arith);
+        word = inverse-lyndon (rw length-drop (omega arith))
+            (λ k. elim k [ zero ↦ ≤ₗ-refl _ | suc j ↦ rw drop-drop (≤ₗ-≪-trans (below m h (length u - suc m + suc j) (omega arith)) (above m p)) ]);
+      },
+    )
     go (never h) = absurd (n (inverse-lyndon s (λ k. below (length u) (λ j a b. h j a (omega arith)) k (omega arith))))
 
 -- ---- the two together

@@ -1,7 +1,7 @@
 -- The places of a word whose suffix comes first, in the inverse order, among it and all earlier suffixes; and the boundaries of a
 -- list of words. Boundaries of both factorizations are such places, and those of an anti-Lyndon factorization are all of them
 -- (boundary-first, first-boundary). Within a range that ends at such a place suffixes compare as to the end (range-before, before-range).
-use mathlib.Core.Path.{_≡_, refl, ap}
+use mathlib.Core.Path.{_≡_, ap}
 use mathlib.Core.List.{List, [], _∷_, _++_, flatten, append-assoc}
 use Prim.Native.Nat.{ℕ, zero, suc, _+_, _-_, _≤_, _<_, zero-le}
 use native.Mathlib.Nat.{le-refl}
@@ -9,7 +9,7 @@ use native.Mathlib.Omega.{arith}
 use native.Mathlib.Decide.{decLt}
 use lib.ListN.{length, drop, length-append, drop-of-length-le}
 use lib.Seq.{drop-append-add, drop-append-le, drop-append-seam, drop-drop}
-use Rattle.words.specs.Words.{_≪_, _⊑_, done, InverseLyndon, AntiLyndon}
+use Rattle.words.specs.Words.{done, InverseLyndon, AntiLyndon}
 use Rattle.words.specs.Statements.{EqualOrAfter, DominatedBy, Next, Linked}
 use Rattle.words.specs.PrefixLaws.{⊑-split}
 use Rattle.words.specs.MismatchLaws.{≪-append, Compared, less, greater, within, beyond, compared}

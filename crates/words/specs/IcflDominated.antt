@@ -3,15 +3,16 @@
 -- no nonempty border of a factor begins the next (dominated-borders; for a list linked-borders; for icfl icfl-borders).
 use mathlib.Core.Path.{_≡_, refl}
 use mathlib.Core.Logic.{_↔_}
-use mathlib.Core.List.{List, [], _∷_, _++_}
+use mathlib.Core.List.{List, []}
 use Prim.Native.Nat.{ℕ, _<_}
 use native.Mathlib.Omega.{arith}
 use native.Mathlib.Decide.{decLt}
-use lib.ListN.{length, take, drop, length-append, length-drop, take-append-drop}
+use lib.ListN.{length, take, drop, length-drop, take-append-drop}
 use lib.Seq.{length-take-le}
 use Rattle.words.specs.Words.{_≪_, _⊑_, InverseLyndon}
 use Rattle.words.specs.Factorizations.{icfl}
-use Rattle.words.specs.Statements.{DominatedBy, BelowByBorders, Next, end, by, Linked, none, more}
+use Rattle.words.specs.Statements.{DominatedBy, BelowByBorders, Linked}
+use Rattle.words.specs.LinkedLaws.{linked-map}
 use Rattle.words.specs.MismatchLaws.{≪-trans, ≪-not-⊑}
 use Rattle.words.specs.LexLaws.{_≤ₗ_, lost, pre, ≤ₗ-≪-trans}
 use Rattle.words.specs.WordTests.{suffix-below}
@@ -39,15 +40,6 @@ dominated-borders m n k = (λ d. (d [] m refl (k .nonempty), λ u s e p q h b. �
         near (pre h) =
             known (≤ₗ-≪-trans (pre h) (b .0))
             (b .1 (take i m) (drop i m) (take-append-drop i m) (rw (length-take-le i m (omega arith)) p) (rw length-drop (omega arith)) h)
-
--- another relation to the next, for words that have P
-linked-map : {P : List ℕ → Type 0} {R S : List ℕ → List ℕ → Type 0} → ((m n : List ℕ) → P m → R m n → S m n) → {ms : List (List ℕ)} → Linked P R ms → Linked P S ms
-linked-map f none = none
-linked-map {P} {R} {S} f (more {m = m} p d g) = more p (next d) (linked-map f g)
-  where
-    next : {ns : List (List ℕ)} → Next R m ns → Next S m ns
-    next end = end
-    next (by {n = n} r) = by (f m n p r)
 
 pub linked-borders : (ms : List (List ℕ)) → Linked InverseLyndon DominatedBy ms ↔ Linked InverseLyndon BelowByBorders ms
 linked-borders ms = (linked-map (λ m n k. dominated-borders m n k .0), linked-map (λ m n k. dominated-borders m n k .1))

@@ -1,14 +1,14 @@
 -- What icfl gives, by induction along its definition: a dominated factorization of its word. The theorems icfl-concat,
 -- icfl-dominated and icfl-unique are this and DominatedUnique.
-use mathlib.Core.Path.{_≡_, refl, ap, sym, subst}
-use mathlib.Core.List.{List, [], _∷_, _++_, flatten, append-nil}
+use mathlib.Core.Path.{_≡_, refl, subst}
+use mathlib.Core.List.{List, [], _∷_, flatten, append-nil}
 use mathlib.Core.Bool.{Bool, true, false}
 use Prim.Native.Nat.{ℕ, zero, suc, _≤_, _<_}
 use native.Mathlib.Omega.{arith}
 use native.Mathlib.Nat.{le-refl}
 use lib.ListN.{length, take, drop, length-drop}
 use lib.Seq.{length-take-le}
-use Rattle.words.specs.Words.{InverseLyndon, isInverseLyndon}
+use Rattle.words.specs.Words.{InverseLyndon}
 use Rattle.words.specs.Factorizations.{icfl, icflWithin, joinFirst, prefixLength, borderLength}
 use Rattle.words.specs.Statements.{DominatedBy, end, Linked, none, more}
 use Rattle.words.specs.Decisions.{Decides, holds, fails}

@@ -1,10 +1,10 @@
 -- The bound of icflWithin does not matter: icfl satisfies paper 01's recursive sentence as it stands (source 004, Definition 4.3).
-use mathlib.Core.Path.{_≡_, refl, sym, _∙_}
-use mathlib.Core.List.{List, [], _∷_, flatten}
+use mathlib.Core.Path.{_≡_, refl, sym}
+use mathlib.Core.List.{List, [], _∷_}
 use Prim.Native.Nat.{ℕ, _<_}
 use lib.ListN.{length, take, drop}
 use Rattle.words.specs.Words.{InverseLyndon}
-use Rattle.words.specs.Factorizations.{icfl, icflWithin, joinFirst, prefixLength, borderLength}
+use Rattle.words.specs.Factorizations.{icfl, joinFirst, prefixLength, borderLength}
 use Rattle.words.specs.IcflFactors.{whole-factors, step-factors, icfl-factors}
 use Rattle.words.specs.Border.{step-is}
 use Rattle.words.specs.IcflUnique.{icfl-unique}

@@ -1,11 +1,12 @@
 -- THEOREM icfl-unique. A dominated list of words with product w is icfl w; the same for a list that is dominated by borders, and
 -- consecutive factors of icfl w are the factors of their own product (icfl-infix).
 use mathlib.Core.Path.{_≡_, refl, sym, _∙_}
-use mathlib.Core.List.{List, [], _∷_, _++_, flatten}
+use mathlib.Core.List.{List, _++_, flatten}
 use Prim.Native.Nat.{ℕ}
 use Rattle.words.specs.Words.{InverseLyndon}
 use Rattle.words.specs.Factorizations.{icfl}
-use Rattle.words.specs.Statements.{DominatedBy, BelowByBorders, Next, end, by, Linked, none, more}
+use Rattle.words.specs.Statements.{DominatedBy, BelowByBorders, Linked}
+use Rattle.words.specs.LinkedLaws.{linked-before, linked-after}
 use Rattle.words.specs.DominatedUnique.{dominated-unique}
 use Rattle.words.specs.IcflConcat.{icfl-concat}
 use Rattle.words.specs.IcflDominated.{icfl-dominated, linked-borders}
@@ -17,18 +18,6 @@ pub icfl-unique-borders : (w : List ℕ) (ms : List (List ℕ)) → Linked Inver
 icfl-unique-borders w ms d e = icfl-unique w ms (linked-borders ms .1 d) e
 
 -- ---- consecutive factors
-
-linked-after : {P : List ℕ → Type 0} {R : List ℕ → List ℕ → Type 0} (xs : List (List ℕ)) {ms : List (List ℕ)} → Linked P R (xs ++ ms) → Linked P R ms
-linked-after [] g = g
-linked-after (x ∷ xs) (more p d g) = linked-after xs g
-
-linked-before : {P : List ℕ → Type 0} {R : List ℕ → List ℕ → Type 0} (ms ys : List (List ℕ)) → Linked P R (ms ++ ys) → Linked P R ms
-linked-before [] ys g = none
-linked-before {R} (m ∷ ms) ys (more p d g) = more p (next ms d) (linked-before ms ys g)
-  where
-    next : (ns : List (List ℕ)) → Next R m (ns ++ ys) → Next R m ns
-    next [] x = end
-    next (n ∷ ns) (by r) = by r
 
 pub icfl-infix : (w : List ℕ) (xs ms ys : List (List ℕ)) → xs ++ (ms ++ ys) ≡ icfl w → ms ≡ icfl (flatten ms)
 icfl-infix w xs ms ys e = icfl-unique (flatten ms) ms (linked-before ms ys (linked-after xs (rw (← e) at (icfl-dominated w)))) refl

@@ -1,11 +1,11 @@
 -- The inverse order with equality allowed, x ≼ y, and its laws; ≺ is ≼ without equality and a strict total order.
-use mathlib.Core.Path.{_≡_, refl, sym}
+use mathlib.Core.Path.{_≡_}
 use mathlib.Core.Logic.{_⊎_, inl, inr}
 use mathlib.Core.List.{List, [], _∷_, _++_}
-use Prim.Native.Nat.{ℕ, _≤_, _<_}
+use Prim.Native.Nat.{ℕ}
 use native.Mathlib.Omega.{arith}
 use lib.ListN.{length}
-use Rattle.words.specs.Words.{_≪_, here, there, _⊑_, done, step, _⊏_, proper, _<ₗ_, _≺_, prefix, mismatch}
+use Rattle.words.specs.Words.{_≪_, here, there, _⊑_, done, step, proper, _<ₗ_, _≺_, prefix, mismatch}
 use Rattle.words.specs.PrefixLaws.{⊑-refl, ⊑-trans, ⊑-length, ⊑-whole}
 use Rattle.words.specs.MismatchLaws.{≪-trans, ≪-asym, ≪-not-⊑, ≪-extend}
 use Rattle.words.specs.LexLaws.{<ₗ-total}

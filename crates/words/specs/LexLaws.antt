@@ -1,12 +1,12 @@
 -- The lexicographic order with equality allowed, x ≤ₗ y, and its laws; <ₗ is ≤ₗ without equality and a strict total order.
-use mathlib.Core.Path.{_≡_, refl}
+use mathlib.Core.Path.{_≡_}
 use mathlib.Core.Logic.{_⊎_, inl, inr}
 use mathlib.Core.List.{List, [], _∷_, _++_}
 use Prim.Native.Nat.{ℕ, _≤_, _<_}
 use native.Mathlib.Omega.{arith}
 use native.Mathlib.Decide.{decLt}
 use lib.ListN.{length, length-append}
-use Rattle.words.specs.Words.{_≪_, here, there, _⊑_, done, step, _⊏_, proper, _<ₗ_, prefix, mismatch}
+use Rattle.words.specs.Words.{_≪_, here, there, _⊑_, done, step, proper, _<ₗ_, prefix, mismatch}
 use Rattle.words.specs.PrefixLaws.{⊑-refl, ⊑-trans, ⊑-length, ⊑-whole, ⊑-both, ⊑-under}
 use Rattle.words.specs.MismatchLaws.{≪-trans, ≪-asym, ≪-not-⊑, ≪-extend, ≪-under, Tri, lt, eq, gt, tri, Compared, less, greater, within, beyond, compared}
 

@@ -30,8 +30,7 @@ pub record CflInOf (w : List ℕ) (ls : List (List ℕ)) : Type 0 where
 abbrev pub DominatedBy : List ℕ → List ℕ → Type 0
 DominatedBy m n = (u s : List ℕ) → u ++ s ≡ m → 0 < length s → s ≪ n
 
--- request 109: "each loses to the next at a shared byte, and no nonempty proper beginning of a piece that also ends it
--- begins the next"
+-- request 109: "each loses to the next at a shared byte, and no nonempty proper beginning of a piece that also ends it begins the next"
 abbrev pub BelowByBorders : List ℕ → List ℕ → Type 0
 BelowByBorders m n = (m ≪ n) × ((u s : List ℕ) → u ++ s ≡ m → 0 < length u → 0 < length s → s ⊑ m → ¬ (s ⊑ n))
 

@@ -1,16 +1,16 @@
 -- The tests of Words decide what they are named for: inverse-lyndon-test, anti-lyndon-test. On the way, the two kinds of words by
 -- places, the suffixes being drop i w: suffix-below and inverse-lyndon, suffix-loses and anti-lyndon.
-use mathlib.Core.Path.{_≡_, refl, ap, sym, subst, _∙_}
-use mathlib.Core.List.{List, [], _∷_, _++_, nil≢cons, cons≢nil, head-eq-of-cons-eq, tail-eq-of-cons-eq}
+use mathlib.Core.Path.{_≡_, refl, ap}
+use mathlib.Core.List.{List, [], _∷_, _++_}
 use mathlib.Core.Bool.{Bool, true, false}
-use Prim.Native.Nat.{ℕ, zero, suc, _+_, _≤_, _<_, compare, Ordering, Ordering·lt, Ordering·eq, Ordering·gt}
+use Prim.Native.Nat.{ℕ, zero, suc, _<_, Ordering, Ordering·lt, Ordering·eq, Ordering·gt}
 use native.Mathlib.Omega.{arith}
 use native.Mathlib.Decide.{decLt}
 use lib.ListN.{length, take, drop, length-append, length-drop, take-append-drop, drop-of-length-le}
-use lib.Seq.{drop-append-seam, drop-nil, length-take-le}
-use Rattle.words.specs.Words.{_≪_, here, there, _⊑_, done, step, _⊏_, proper, _<ₗ_, _≺_, prefix, mismatch, InverseLyndon, AntiLyndon, Outcome, compareWords, isLexLess, isInverseBefore, isSame, everySuffix, isInverseLyndon, isAntiLyndon}
-use Rattle.words.specs.PrefixLaws.{⊑-refl, ⊑-length}
-use Rattle.words.specs.MismatchLaws.{≪-not-⊑, ≪-asym}
+use lib.Seq.{drop-append-seam, length-take-le}
+use Rattle.words.specs.Words.{_≪_, here, there, done, step, _⊏_, proper, _<ₗ_, _≺_, prefix, mismatch, InverseLyndon, AntiLyndon}
+use Rattle.words.specs.Words.{Outcome, compareWords, isLexLess, isInverseBefore, isSame, everySuffix, isInverseLyndon, isAntiLyndon}
+use Rattle.words.specs.MismatchLaws.{≪-asym}
 use Rattle.words.specs.LexLaws.{_≤ₗ_, lost, pre, ≤ₗ-refl, <ₗ-≤ₗ, <ₗ-irrefl, <ₗ-trans}
 use Rattle.words.specs.InverseLaws.{≺-irrefl, ≺-trans}
 use Rattle.words.specs.Decisions.{Decides, holds, fails, decides-map, Ordered, lt, eq, gt, ordered}

@@ -23,8 +23,7 @@ pub data _⊑_ : List ℕ → List ℕ → Type 0 where
 pub data _⊏_ (x y : List ℕ) : Type 0 where
   proper : x ⊑ y → length x < length y → x ⊏ y
 
--- lexicographic order (natural order): "the first word is less if it is a proper beginning of the second, or has the smaller
--- byte at their first difference"
+-- lexicographic order (natural order): "less if it is a proper beginning of the second, or has the smaller byte at their first difference"
 pub data _<ₗ_ (x y : List ℕ) : Type 0 where
   prefix : x ⊏ y → x <ₗ y
   mismatch : x ≪ y → x <ₗ y
@@ -44,9 +43,7 @@ pub record AntiLyndon (w : List ℕ) : Type 0 where
   pub nonempty : 0 < length w
   pub precedes : (u s : List ℕ) → u ++ s ≡ w → 0 < length u → 0 < length s → w ≺ s
 
--- ---- tests
-
--- x against y: less or greater at their first difference, the same, a proper prefix of y, or longer than its prefix y
+-- the tests compare by outcome, x against y: less or greater at their first difference, the same, a proper prefix of y, or longer than its prefix y
 pub data Outcome : Type 0 where
   less greater same shorter longer : Outcome
 
