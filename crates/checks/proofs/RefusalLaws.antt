@@ -1,0 +1,83 @@
+-- What a check's case tells of its number (passed, refused), and what passed lines tell of their arguments (record-accepted and so on).
+use mathlib.Core.Path.{_≡_, refl, sym, _∙_}
+use mathlib.Core.Bool.{Bool, true, false, _||_}
+use mathlib.Core.List.{List, [], _∷_}
+use Prim.Native.Nat.{ℕ, zero, suc, _≤_, _<_}
+use native.Mathlib.Omega.{arith}
+use lib.ListN.{length}
+use lib.Dec.{leb, ltb, eqb}
+use types.Run.{OneOf}
+use denote.Enum.Declared.{tagOf}
+use Rattle.words.specs.Decisions.{Decides, holds, fails, leb-test, eqb-test}
+use Rattle.checks.proofs.Checked.{the-type}
+use Rattle.checks.specs.declared.Checked.{Checked}
+use Rattle.checks.specs.declared.Checked.the-variants.{Passed, Refused}
+use Rattle.checks.specs.Refusals.{refuse, firstRefusal, recordRefusal, workRefusal, resultRefusal, rangeRefusal, startRefusal, numberRefusal}
+use Rattle.checks.specs.Answers.{checkedAs, numberOf}
+
+-- ---- cases and numbers
+
+pub number-checked : (n : ℕ) → numberOf (checkedAs n) ≡ n
+number-checked zero = refl
+number-checked (suc e) = refl
+
+-- the branch of `let Checked::Passed = k else` that goes on, and the one that does not
+pub passed : (k : Checked) (n : ℕ) → k ≡ checkedAs n → OneOf (0 ∷ []) (tagOf the-type k) → n ≡ 0
+passed Passed zero e h = refl
+passed Passed (suc n) e h = let z : _≡_ {A = ℕ} 0 1 = cc in absurd (omega arith)
+passed (Refused i) n e h = let z : _≡_ {A = ℕ} 1 0 = h in absurd (omega arith)
+
+pub refused : (k : Checked) (n : ℕ) → k ≡ checkedAs n → OneOf (1 ∷ []) (tagOf the-type k) → 0 < n
+refused Passed n e h = let z : _≡_ {A = ℕ} 0 1 = h in absurd (omega arith)
+refused (Refused i) zero e h = let z : _≡_ {A = ℕ} 0 1 = cc in absurd (omega arith)
+refused (Refused i) (suc n) e h = omega arith
+
+-- ---- a condition of two parts
+
+pub either : {P Q : Type 0} {a b : Bool} → Decides P a → Decides Q b → {number : ℕ} → 0 < number → refuse (a || b) number ≡ 0 → (¬ P) × (¬ Q)
+either (holds p) d l e = absurd (omega arith)
+either (fails p) (holds q) l e = absurd (omega arith)
+either (fails p) (fails q) l e = (p, q)
+
+one : {P : Type 0} {a : Bool} → Decides P a → {number : ℕ} → 0 < number → refuse a number ≡ 0 → ¬ P
+one (holds p) l e = absurd (omega arith)
+one (fails p) l e = p
+
+-- ---- the lines
+
+pub record Accepted (w : List ℕ) : Type 0 where
+  pub nonempty : 0 < length w
+  pub short : length w ≤ 4096
+
+pub record-accepted : (w : List ℕ) → recordRefusal w ≡ 0 → Accepted w
+unfolding recordRefusal
+record-accepted w e = go (eqb-test (length w) 0) (leb-test 4097 (length w)) e
+  where
+    go : {a b : Bool} → Decides (length w ≡ 0) a → Decides (4097 ≤ length w) b → firstRefusal (refuse a 1 ∷ refuse b 2 ∷ []) ≡ 0 → Accepted w
+    go (holds p) d e = absurd (omega arith)
+    go (fails p) (holds q) e = absurd (omega arith)
+    go (fails p) (fails q) e = record { nonempty = omega arith; short = omega arith }
+
+pub result-accepted : (entries needed : ℕ) → resultRefusal entries needed ≡ 0 → needed ≤ entries
+unfolding resultRefusal
+result-accepted entries needed e = let n = one (leb-test (suc entries) needed) {number = 4} (omega arith) e in omega arith
+
+pub work-accepted : (entries needed : ℕ) → workRefusal entries needed ≡ 0 → needed ≤ entries
+unfolding workRefusal
+work-accepted entries needed e = let n = one (leb-test (suc entries) needed) {number = 3} (omega arith) e in omega arith
+
+pub range-accepted : (n first end : ℕ) → rangeRefusal n first end ≡ 0 → (first < end) × (end ≤ n)
+unfolding rangeRefusal
+range-accepted n first end e =
+    let q = either (leb-test end first) (leb-test (suc n) end) {number = 5} (omega arith) e in
+    (omega (arith, q .0), omega (arith, q .1))
+
+pub start-accepted : (first end start : ℕ) → startRefusal first end start ≡ 0 → (first ≤ start) × (start < end)
+unfolding startRefusal
+start-accepted first end start e =
+    let q = either (leb-test (suc start) first) (leb-test end start) {number = 6} (omega arith) e in
+    (omega (arith, q .0), omega (arith, q .1))
+
+pub number-accepted : (number count : ℕ) → numberRefusal number count ≡ 0 → number < count
+unfolding numberRefusal
+number-accepted number count e = let n = one (leb-test count number) {number = 8} (omega arith) e in omega arith
