@@ -61,3 +61,6 @@ pub mod Failing
 pub mod Border
 pub mod IcflFactors
 pub mod DominatedUnique
+-- the scan: one letter after another
+pub mod Period
+pub mod Scanned
