@@ -1,10 +1,10 @@
 -- What a check's case tells of its number (passed, refused), and what passed lines tell of their arguments (record-accepted and so on).
-use mathlib.Core.Path.{_≡_, refl, sym, _∙_}
+use mathlib.Core.Path.{_≡_, refl, ap, _∙_}
 use mathlib.Core.Bool.{Bool, true, false, _||_}
-use mathlib.Core.List.{List, [], _∷_}
+use mathlib.Core.List.{List, [], _∷_, _++_}
 use Prim.Native.Nat.{ℕ, zero, suc, _≤_, _<_}
 use native.Mathlib.Omega.{arith}
-use lib.ListN.{length}
+use lib.ListN.{length, drop}
 use lib.Dec.{leb, ltb, eqb}
 use types.Run.{OneOf}
 use denote.Enum.Declared.{tagOf}
@@ -13,11 +13,12 @@ use Rattle.checks.proofs.Checked.{the-type}
 use Rattle.checks.specs.declared.Checked.{Checked}
 use Rattle.checks.specs.declared.Checked.the-variants.{Passed, Refused}
 use Rattle.checks.specs.Refusals.{refuse, firstRefusal, recordRefusal, workRefusal, resultRefusal, rangeRefusal, startRefusal, numberRefusal}
-use Rattle.checks.specs.Answers.{checkedAs, numberOf}
+use Rattle.checks.specs.declared.Counted.{Counted}
+use Rattle.checks.specs.Answers.{checkedAs, numberOf, Filled}
 
 -- ---- cases and numbers
 
-pub number-checked : (n : ℕ) → numberOf (checkedAs n) ≡ n
+number-checked : (n : ℕ) → numberOf (checkedAs n) ≡ n
 number-checked zero = refl
 number-checked (suc e) = refl
 
@@ -31,6 +32,24 @@ pub refused : (k : Checked) (n : ℕ) → k ≡ checkedAs n → OneOf (1 ∷ [])
 refused Passed n e h = let z : _≡_ {A = ℕ} 0 1 = h in absurd (omega arith)
 refused (Refused i) zero e h = let z : _≡_ {A = ℕ} 0 1 = cc in absurd (omega arith)
 refused (Refused i) (suc n) e h = omega arith
+
+-- the number that is passed up is the line's
+pub number-is : (k : Checked) (n m : ℕ) → k ≡ checkedAs n → m ≡ numberOf k → m ≡ n
+number-is k n m e f = f ∙ ap numberOf e ∙ number-checked n
+
+-- ---- calls that fill a result buffer
+
+-- a line passes, or refuses
+pub filled-passed : {e : ℕ} {lines : List ℕ} {n : ℕ} {vs buffer buffer′ : List ℕ} {r : Counted} → e ≡ 0 → Filled lines n vs buffer r buffer′ → Filled (e ∷ lines) n vs buffer r buffer′
+filled-passed {e = zero} z f = record { answer = f .answer; result = f .result }
+filled-passed {e = suc e} z f = absurd (omega arith)
+
+pub filled-refused : (e m : ℕ) (lines : List ℕ) (n : ℕ) (vs buffer : List ℕ) → m ≡ e → 0 < e → Filled (e ∷ lines) n vs buffer (Counted.Refused m) buffer
+filled-refused zero m lines n vs buffer z l = absurd (omega arith)
+filled-refused (suc e) m lines n vs buffer z l = record { answer = ap (λ (t : ℕ). Counted.Refused t) z; result = refl }
+
+pub filled-done : (n m : ℕ) (vs buffer buffer′ : List ℕ) → m ≡ n → buffer′ ≡ vs ++ drop (length vs) buffer → Filled [] n vs buffer (Counted.Count m) buffer′
+filled-done n m vs buffer buffer′ z e = record { answer = ap (λ (t : ℕ). Counted.Count t) z; result = e }
 
 -- ---- a condition of two parts
 

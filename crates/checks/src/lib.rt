@@ -25,6 +25,12 @@ impl Checked {
     }
 }
 
+/// What a call that fills a result buffer answers: the number of factors or entries, or the number of the refusal.
+pub enum Counted {
+    Count(usize),
+    Refused(u8),
+}
+
 /// Lines 1 and 2: the record's length.
 pub fn check_record(word: &[u8]) -> Checked
     ensures { λ r. ⌜ r ≡ checkedAs (recordRefusal (now (word .entry))) ⌝ }

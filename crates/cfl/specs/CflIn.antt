@@ -1,0 +1,41 @@
+-- DEFINITIONS. What the strict cut answers and writes (CflInDone), and what its inner functions ask and promise.
+use mathlib.Core.Path.{_≡_}
+use mathlib.Core.Bool.{Bool, true, false}
+use mathlib.Core.List.{List, [], _∷_, _++_}
+use Prim.Native.Nat.{ℕ, _≤_, _<_}
+use lib.ListN.{length, drop}
+use Rattle.words.specs.Factorizations.{longestAntiLyndon, cflInEnds}
+use Rattle.words.specs.Scanned.{Scanned}
+use Rattle.checks.specs.Refusals.{recordRefusal, resultRefusal}
+use Rattle.checks.specs.Answers.{Filled}
+use Rattle.checks.specs.declared.Counted.{Counted}
+use Rattle.cfl.specs.declared.Factor.{Factor}
+
+-- the lines of the table that the strict cut tries: 1, 2 and 4
+abbrev pub cflInLines : List ℕ → ℕ → List ℕ
+cflInLines w entries = recordRefusal w ∷ resultRefusal entries (length (cflInEnds w)) ∷ []
+
+-- the call's promise: its answer, and the result buffer whole
+abbrev pub CflInDone : List ℕ → List ℕ → Counted → List ℕ → Type 0
+CflInDone w buffer r buffer′ = Filled (cflInLines w (length buffer)) (length (cflInEnds w)) (cflInEnds w) buffer r buffer′
+
+-- ---- inner functions
+
+pub record FirstFactor (w : List ℕ) (r : Factor) : Type 0 where
+  pub positive : 0 < r .length
+  pub upto : r .length ≤ length w
+  pub longest : longestAntiLyndon w ≡ r .length
+  pub next : r .length < length w → Scanned (drop (r .length) w) (r .next .length) (r .next .border)
+
+pub record Room (w buffer : List ℕ) (store : Bool) : Type 0 where
+  pub short : length w ≤ 4096
+  pub entries : store ≡ true → length (cflInEnds w) ≤ length buffer
+
+-- the ends, stored or not
+abbrev pub storedAs : Bool → List ℕ → List ℕ → List ℕ
+storedAs true vs buffer = vs ++ drop (length vs) buffer
+storedAs false vs buffer = buffer
+
+pub record Walked (w buffer : List ℕ) (store : Bool) (r : ℕ) (buffer′ : List ℕ) : Type 0 where
+  pub count : r ≡ length (cflInEnds w)
+  pub result : buffer′ ≡ storedAs store (cflInEnds w) buffer
