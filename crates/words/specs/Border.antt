@@ -1,6 +1,6 @@
 -- |r| by letters, as paper 01 has it, is |r| by the order: extension-is says that failingLength, borderLength and prefixLength of a
 -- nonempty word that is not inverse Lyndon give an Extension. That 2|r| + 2 ≤ L is needed only here.
-use mathlib.Core.Path.{_≡_, sym, subst}
+use mathlib.Core.Path.{_≡_, refl, sym, subst}
 use mathlib.Core.List.{List, [], _∷_, _++_}
 use Prim.Native.Nat.{ℕ, suc, _+_, _-_, _*_, _≤_, _<_}
 use native.Mathlib.Omega.{arith}
@@ -80,6 +80,10 @@ border-least w r x y = least-unique (λ k. Border w l k) (λ k. isBorder w l k) 
 
     b : r < l
     b = rw n at (y .inside)
+
+pub prefix-length : (w : List ℕ) → prefixLength w ≡ failingLength w - borderLength w - 1
+unfolding prefixLength
+prefix-length w = refl
 
 abbrev pub StepAt : List ℕ → ℕ → ℕ → Type 0
 StepAt w p r = Extension w (take p w) (take r (drop p w)) (getD w (p + r) 0) (drop (suc (p + r)) w)

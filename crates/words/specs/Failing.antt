@@ -13,11 +13,12 @@ use lib.ListN.{length, take, drop, getD, length-drop, take-append-drop, drop-of-
 use lib.Seq.{drop-drop, drop-cons, drop-at, take-add, take-suc, take-length, length-take-le}
 use Rattle.words.specs.Words.{_≪_, done, proper, _<ₗ_, prefix, mismatch, InverseLyndon, isLexLess, isInverseLyndon}
 use Rattle.words.specs.Factorizations.{failingLength}
+use Rattle.words.specs.PrefixLaws.{take-⊑}
 use Rattle.words.specs.LexLaws.{_≤ₗ_, pre, ≤ₗ-refl, ≤ₗ-≪-trans, <ₗ-≤ₗ, <ₗ-total}
 use Rattle.words.specs.MismatchLaws.{≪-asym}
 use Rattle.words.specs.Decisions.{Decides, holds, fails, decides-not, Least, found, never, least-is, least-unique}
 use Rattle.words.specs.WordTests.{lex-less-test, inverse-lyndon, inverse-lyndon-test}
-use Rattle.words.specs.Extension.{Extension}
+use Rattle.words.specs.Extension.{Extension, prefix-inverse-lyndon}
 
 -- ---- the shortest failing prefix
 
@@ -49,6 +50,9 @@ pub failing-unique : (w : List ℕ) (l : ℕ) → Failing w l → failingLength 
 unfolding failingLength
 failing-unique w l k = least-unique (λ n. ¬ InverseLyndon (take n w)) (λ n. not (isInverseLyndon (take n w))) (failing-test w) (length w) 1 l
     (k .fails) (k .positive) (omega (arith, k .inside)) (λ j a b n. n (k .before j a b))
+
+pub failing-not : {w : List ℕ} {l : ℕ} → Failing w l → ¬ InverseLyndon w
+failing-not {w} {l} x k = x .fails (prefix-inverse-lyndon (take-⊑ l w) (rw (length-take-le l w (x .inside)) (x .positive)) k)
 
 -- ---- its shortest suffix above it
 

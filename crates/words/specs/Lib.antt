@@ -64,3 +64,5 @@ pub mod DominatedUnique
 -- the scan: one letter after another
 pub mod Period
 pub mod Scanned
+pub mod Borders
+pub mod Breaks

@@ -1,0 +1,48 @@
+use borrow.Author.Needs.{needs}
+use native.Mathlib.Omega.{arith}
+use Rattle.extension.proofs.ScanLaws.{verdict-whole, verdict-fails}
+use borrow.Author.Needs.{needs}
+use Rattle.extension.proofs.extension_of.Statement.{statement}
+use Rattle.extension.proofs.extension_of.Tie as tie
+
+scan-borders-requires : tie.Need-scan-borders-requires
+scan-borders-requires c κs = search needs
+
+same-length : tie.Need-same-length
+same-length c = search needs
+
+returns : tie.Need-returns
+returns c = record { answer = verdict-whole _ _ _ (c .before .before .before .scan-borders .ensures .scanned) (c .if1 .taken); kept = c .before .before .before .scan-borders .ensures .kept }
+
+shortest-border-requires : tie.Need-shortest-border-requires
+shortest-border-requires c κs =
+    let s = c .before .before .before .before .scan-borders .ensures in
+    record { scanned = s .scanned; inside = c .before .if1 .left; entries = omega (arith, c .before .before .before .before .before .before .before .before .pre .entries, c .before .before .before .before .scan-borders .kept); above = s .stops (c .before .if1 .left); borders = s .table }
+
+add-t9 : tie.Need-add-t9
+add-t9 c = search needs
+
+sub-t13 : tie.Need-sub-t13
+sub-t13 c = search needs
+
+same-length-2 : tie.Need-same-length-2
+same-length-2 c = search needs
+
+returns-2 : tie.Need-returns-2
+returns-2 c =
+    let s = c .before .before .before .before .before .scan-borders .ensures in
+    let l = c .before .before .if1 .left in
+    record { answer = verdict-fails _ _ _ _ (s .scanned) l (s .stops l) (c .shortest-border .ensures); kept = s .kept }
+
+pub extension-of-spec : {M : Type 1} → statement M
+extension-of-spec =
+    tie.close
+    (tie.spec
+    scan-borders-requires
+    same-length
+    returns
+    shortest-border-requires
+    add-t9
+    sub-t13
+    same-length-2
+    returns-2)
