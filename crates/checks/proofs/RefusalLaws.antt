@@ -18,7 +18,7 @@ use Rattle.checks.specs.Answers.{checkedAs, numberOf, Filled}
 
 -- ---- cases and numbers
 
-number-checked : (n : ℕ) → numberOf (checkedAs n) ≡ n
+pub number-checked : (n : ℕ) → numberOf (checkedAs n) ≡ n
 number-checked zero = refl
 number-checked (suc e) = refl
 

@@ -1,0 +1,146 @@
+-- The forward pass, over plain lists: whatever the breaks of the rest are, with those on the stack in front they are the breaks of the word.
+use mathlib.Core.Path.{_≡_, refl, ap, sym, _∙_}
+use mathlib.Core.Bool.{Bool, true, false}
+use mathlib.Core.Logic.{_⊎_, inl, inr}
+use mathlib.Core.List.{List, [], _∷_, _++_, append-assoc, append-nil}
+use Prim.Native.Nat.{ℕ, suc, _+_, _-_, _*_, _≤_, _<_}
+use native.Mathlib.Omega.{arith}
+use lib.ListN.{length, take, drop, set, length-set, length-drop}
+use lib.Seq.{take-all, take-suc-set, drop-set-add, drop-set-lt, drop-drop}
+use types.Run.{OneOf}
+use denote.Enum.Declared.{tagOf}
+use Rattle.words.specs.Words.{InverseLyndon, isInverseLyndon}
+use Rattle.words.specs.Factorizations.{failingLength, prefixLength, borderLength}
+use Rattle.words.specs.Decisions.{Decides, holds, fails, decides-true, decides-false}
+use Rattle.words.specs.WordTests.{inverse-lyndon-test}
+use Rattle.words.specs.Border.{step-is}
+use Rattle.words.specs.IcflFactors.{prefix-positive, prefix-inside}
+use Rattle.words.specs.Breaks.{Breaks, whole, break}
+use Rattle.extension.specs.declared.Extension.{Extension}
+use Rattle.extension.specs.Extension.{verdictAs, extensionOf, Fits, Verdict}
+use Rattle.extension.proofs.Extension.{the-type}
+use Rattle.icfl.specs.Icfl.{Roomy, BreaksFound}
+
+-- ---- what the verdict tells
+
+pub record Fails (v : List ℕ) (p r : ℕ) : Type 0 where
+  pub not : ¬ InverseLyndon v
+  pub prefix : p ≡ prefixLength v
+  pub border : r ≡ borderLength v
+  pub positive : 0 < p
+  pub inside : p + r < length v
+
+pub verdict-fails : (v : List ℕ) (l p r : ℕ) → 0 < length v → Extension.Failing l p r ≡ extensionOf v → Fails v p r
+unfolding extensionOf
+verdict-fails v l p r s e = go (isInverseLyndon v) refl e
+  where
+    go : (t : Bool) → isInverseLyndon v ≡ t → Extension.Failing l p r ≡ verdictAs t (failingLength v) (prefixLength v) (borderLength v) → Fails v p r
+    go true d z = let b : _≡_ {A = ℕ} 0 1 = cc in absurd (omega arith)
+    go false d z =
+        let n : ¬ InverseLyndon v = decides-false (inverse-lyndon-test v) d in
+        let step = step-is v s n in
+        let x : p ≡ prefixLength v = cc in
+        let y : r ≡ borderLength v = cc in
+        record { not = n; prefix = x; border = y; positive = omega (arith, prefix-positive v step); inside = omega (arith, step .failing .inside) }
+
+pub verdict-holds : (v : List ℕ) (a : Extension) → OneOf (0 ∷ 2 ∷ []) (tagOf the-type a) → a ≡ extensionOf v → InverseLyndon v
+unfolding extensionOf
+verdict-holds v a h e = go (isInverseLyndon v) refl a h e
+  where
+    go : (t : Bool) → isInverseLyndon v ≡ t → (a : Extension) → OneOf (0 ∷ 2 ∷ []) (tagOf the-type a)
+        → a ≡ verdictAs t (failingLength v) (prefixLength v) (borderLength v) → InverseLyndon v
+    go true d a h z = decides-true (inverse-lyndon-test v) d
+    go false d Extension.InverseLyndon h z = let b : _≡_ {A = ℕ} 0 1 = cc in absurd (omega arith)
+    go false d (Extension.Refused m) h z = let b : _≡_ {A = ℕ} 0 1 = cc in absurd (omega arith)
+    go false d (Extension.Failing l p r) (inl h) z = let b : _≡_ {A = ℕ} 1 0 = h in absurd (omega arith)
+    go false d (Extension.Failing l p r) (inr h) z = let b : _≡_ {A = ℕ} 1 2 = h in absurd (omega arith)
+
+-- ---- the stack
+
+-- two entries pushed at entry n + i of the buffer
+stack-push : (work : List ℕ) (n i e r : ℕ) → n + i + 1 < length work → take (suc (suc i)) (drop n (set (set work (n + i) e) (n + i + 1) r)) ≡ take i (drop n work) ++ e ∷ r ∷ []
+stack-push work n i e r l =
+    let z : n + i + 1 ≡ n + suc i = omega arith in
+    let m : i < length (drop n work) = rw length-drop (omega arith) in
+    rw (z, drop-set-add n (set work (n + i) e) (suc i) r, drop-set-add n work i e)
+    (take-suc-set (set (drop n work) i e) (suc i) r (rw (length-set, length-drop) (omega arith))
+    ∙ (ap (λ (t : List ℕ). t ++ r ∷ []) (take-suc-set (drop n work) i e m) ∙ append-assoc (take i (drop n work)) (e ∷ []) (r ∷ [])))
+
+-- ---- the loop
+
+-- the part of the word that the code lends
+abbrev rest : List ℕ → ℕ → List ℕ
+rest w from = take (length w - from) (drop from w)
+
+rest-is : (w : List ℕ) (from : ℕ) → rest w from ≡ drop from w
+rest-is w from = take-all (length w - from) (drop from w) (rw (length-drop from w) (omega arith))
+
+pub record Finding (w work₀ work : List ℕ) (n from count : ℕ) : Type 0 where
+  pub size : n ≡ length w
+  pub few : count ≤ from
+  pub inside : from < length w
+  pub breaks : (bs : List ℕ) → Breaks from (drop from w) bs → Breaks 0 w (take (2 * count) (drop (length w) work) ++ bs)
+  pub kept : drop (3 * length w) work ≡ drop (3 * length w) work₀
+  pub long : length work ≡ length work₀
+
+pub find-starts : (w work : List ℕ) → Roomy w work → Finding w work work (length w) 0 0
+find-starts w work r = record { size = refl; few = omega arith; inside = r .nonempty; breaks = λ bs b. b; kept = refl; long = refl }
+
+pub find-fits : (w work₀ work : List ℕ) (n from count : ℕ) → Roomy w work₀ → Finding w work₀ work n from count → Fits (rest w from) work
+find-fits w work₀ work n from count r g = rw (rest-is w from) (record {
+  nonempty = rw length-drop (omega (arith, g .inside));
+  short = rw length-drop (omega (arith, r .short));
+  entries = rw length-drop (omega (arith, r .entries, g .long));
+})
+
+module _ (w work₀ work work₁ : List ℕ) (n from count : ℕ) (g : Finding w work₀ work n from count) (a : Extension) (v : Verdict (rest w from) work a work₁) where
+  verdict : Verdict (drop from w) work a work₁
+  verdict = rw (rest-is w from) at v
+
+  -- the test uses the entries of the rest's letters only
+  kept-from : (m : ℕ) → length w ≤ m → drop m work₁ ≡ drop m work
+  kept-from m l =
+      let k : length (drop from w) + (m - length (drop from w)) ≡ m = rw length-drop (omega arith) in
+      rw (← k, ← drop-drop (m - length (drop from w)) (length (drop from w)) work₁, ← drop-drop (m - length (drop from w)) (length (drop from w)) work)
+      (ap (drop (m - length (drop from w))) (verdict .kept))
+
+  pub find-ends : OneOf (0 ∷ 2 ∷ []) (tagOf the-type a) → BreaksFound w work₀ count work₁
+  find-ends h = record {
+    few = omega (arith, g .few, g .inside);
+    breaks =
+        rw (kept-from (length w) (omega arith), ← append-nil (take (2 * count) (drop (length w) work)))
+        (g .breaks [] (whole (verdict-holds (drop from w) a h (verdict .answer))));
+    kept = kept-from (3 * length w) (omega arith) ∙ g .kept;
+  }
+
+  module _ (l p r : ℕ) (z : a ≡ Extension.Failing l p r) where
+    pub found : Fails (drop from w) p r
+    found = verdict-fails (drop from w) l p r (rw length-drop (omega (arith, g .inside))) (sym z ∙ verdict .answer)
+
+    pub step-inside : from + p + r < length w
+    step-inside = omega (arith, found .inside, length-drop from w)
+
+    pub find-on : 3 * length w ≤ length work₁ → length work₁ ≡ length work
+        → Finding w work₀ (set (set work₁ (n + 2 * count) (from + p)) (n + 2 * count + 1) r) n (from + p) (count + 1)
+    find-on m y = record {
+      size = g .size;
+      few = omega (arith, g .few, found .positive);
+      inside = omega (arith, step-inside);
+      breaks = λ bs b. rw (pushed, append-assoc) (g .breaks ((from + p) ∷ r ∷ bs) (broken bs b));
+      kept =
+          drop-set-lt (3 * length w) (set work₁ (n + 2 * count) (from + p)) (n + 2 * count + 1) r (omega (arith, g .size, g .few, g .inside))
+          ∙ (drop-set-lt (3 * length w) work₁ (n + 2 * count) (from + p) (omega (arith, g .size, g .few, g .inside)) ∙ (kept-from (3 * length w) (omega arith) ∙ g .kept));
+      long = length-set (set work₁ (n + 2 * count) (from + p)) (n + 2 * count + 1) r ∙ (length-set work₁ (n + 2 * count) (from + p) ∙ (y ∙ g .long));
+    }
+      where
+        pushed : take (2 * (count + 1)) (drop (length w) (set (set work₁ (n + 2 * count) (from + p)) (n + 2 * count + 1) r))
+            ≡ take (2 * count) (drop (length w) work) ++ (from + p) ∷ r ∷ []
+        pushed =
+            let k : 2 * (count + 1) ≡ suc (suc (2 * count)) = omega arith in
+            rw (k, g .size) (stack-push work₁ (length w) (2 * count) (from + p) r (omega (arith, g .few, g .inside)) ∙ rw (kept-from (length w) (omega arith)))
+
+        broken : (bs : List ℕ) → Breaks (from + p) (drop (from + p) w) bs → Breaks from (drop from w) ((from + p) ∷ r ∷ bs)
+        broken bs b =
+            let some : 0 < length (drop from w) = rw length-drop (omega (arith, g .inside)) in
+            rw (found .prefix, found .border)
+            (break some (found .not) (rw (found .prefix, ← drop-drop (prefixLength (drop from w)) from w) at b))

@@ -1,0 +1,60 @@
+use borrow.Author.Needs.{needs}
+use Prim.Native.Nat.{_-_}
+use native.Mathlib.Omega.{arith}
+use lib.ListN.{length}
+use Rattle.icfl.proofs.Copying.{Copying, copy-starts, copy-on, copy-ends}
+use Rattle.icfl.proofs.copy.Statement.{statement}
+use Rattle.icfl.proofs.copy.Tie as tie
+
+abbrev Inv-loop : tie.InvT-loop
+Inv-loop source target₀ i₀ target i = Copying source target₀ target i
+
+abbrev μ-loop : tie.MeasureT-loop
+μ-loop source target₀ i₀ target i = length source - i
+
+loop-holds : tie.Need-loop-holds Inv-loop μ-loop
+loop-holds c = copy-starts _ _
+
+mul-target : tie.Need-mul-target Inv-loop μ-loop
+mul-target c = search needs
+
+shared-slice-read-target : tie.Need-shared-slice-read-target Inv-loop μ-loop
+shared-slice-read-target c = search needs
+
+mul-target-2 : tie.Need-mul-target-2 Inv-loop μ-loop
+mul-target-2 c = search needs
+
+slice-write-target : tie.Need-slice-write-target Inv-loop μ-loop
+slice-write-target c = omega (arith, c .before .before .loop .inv .long, c .before .before .before .pre)
+
+add-i : tie.Need-add-i Inv-loop μ-loop
+add-i c = search needs
+
+loop-less : tie.Need-loop-less Inv-loop μ-loop
+loop-less c = search needs
+
+loop-again : tie.Need-loop-again Inv-loop μ-loop
+loop-again c = copy-on _ _ _ _ (c .before .before .loop .inv) (c .before .loop-test .taken) (c .before .before .before .pre)
+
+same-length : tie.Need-same-length Inv-loop μ-loop
+same-length c = search needs
+
+returns : tie.Need-returns Inv-loop μ-loop
+returns c = copy-ends _ _ _ _ (c .before .loop .inv) (c .loop-test .left)
+
+pub copy-spec : {M : Type 1} → statement M
+copy-spec =
+    tie.close
+    (tie.spec
+    Inv-loop
+    μ-loop
+    loop-holds
+    mul-target
+    shared-slice-read-target
+    mul-target-2
+    slice-write-target
+    add-i
+    loop-less
+    loop-again
+    same-length
+    returns)

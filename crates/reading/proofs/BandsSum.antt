@@ -1,0 +1,58 @@
+-- "the counts add up to the number of pieces": bands-sum, for a list of ends, and summary-bands-sum, for every answer of the summary.
+use mathlib.Core.Path.{_≡_, refl, ap, _∙_}
+use mathlib.Core.List.{List, [], _∷_, sum}
+use Prim.Native.Nat.{ℕ, zero, suc, _+_, _-_, _≤_, _<_}
+use native.Mathlib.Nat.{zero-add}
+use native.Mathlib.Decide.{ℕ-discrete}
+use native.Mathlib.Omega.{arith}
+use lib.ListN.{length}
+use Rattle.checks.proofs.EndsLaws.{Rises, done, more, rises-most}
+use Rattle.reading.specs.Summary.{summaryRefusal, lengthsFrom, bitLength, countOf, bandsOf, summaryAs}
+use Rattle.reading.specs.Steps.{Ends}
+use Rattle.reading.proofs.BitLengths.{bit-length-most, bit-length-some}
+use Rattle.reading.proofs.SummaryLaws.{bandsFrom, countsFrom, count-here, count-other, bands-are-counts}
+use Rattle.reading.proofs.SummaryAnswers.{summary-accepted}
+
+counts-none : (b k : ℕ) → sum _+_ 0 (countsFrom b k []) ≡ 0
+unfolding sum countOf
+counts-none zero k = refl
+counts-none (suc b) k = zero-add (sum _+_ 0 (countsFrom b (suc k) [])) ∙ counts-none b (suc k)
+
+-- a number below the counted ones adds nothing, one among them adds one
+counts-below : (b k n : ℕ) (ns : List ℕ) → n < k → sum _+_ 0 (countsFrom b k (n ∷ ns)) ≡ sum _+_ 0 (countsFrom b k ns)
+unfolding sum
+counts-below zero k n ns h = refl
+counts-below (suc b) k n ns h =
+    let ih = counts-below b (suc k) n ns (omega arith) in
+    let c = count-other k n ns (λ e. omega arith) in
+    omega arith
+
+counts-among : (b k n : ℕ) (ns : List ℕ) → k ≤ n → n < k + b → sum _+_ 0 (countsFrom b k (n ∷ ns)) ≡ suc (sum _+_ 0 (countsFrom b k ns))
+unfolding sum
+counts-among zero k n ns l h = absurd (omega arith)
+counts-among (suc b) k n ns l h = go (ℕ-discrete n k) (λ m. counts-among b (suc k) n ns m (omega arith))
+  where
+    go : Dec (n ≡ k) → (k < n → sum _+_ 0 (countsFrom b (suc k) (n ∷ ns)) ≡ suc (sum _+_ 0 (countsFrom b (suc k) ns)))
+        → countOf k (n ∷ ns) + sum _+_ 0 (countsFrom b (suc k) (n ∷ ns)) ≡ suc (countOf k ns + sum _+_ 0 (countsFrom b (suc k) ns))
+    go (yes e) ih = omega (arith, count-here k n ns e, counts-below b (suc k) n ns (omega arith))
+    go (no e) ih = omega (arith, count-other k n ns e, ih (omega arith))
+
+bands-sum-from : {n a : ℕ} {es : List ℕ} → Rises n a es → n ≤ 4096 → sum _+_ 0 (countsFrom 13 1 (bandsFrom a es)) ≡ length es
+unfolding lengthsFrom
+bands-sum-from (done e) l = counts-none 13 1
+bands-sum-from (more {a = a} {e = e} {es = es} h r) l =
+    let m = rises-most r in
+    counts-among 13 1 (bitLength (e - a)) (bandsFrom e es) (bit-length-some (e - a) (omega arith)) (omega (arith, bit-length-most (e - a) (omega arith)))
+    ∙ ap suc (bands-sum-from r l)
+
+pub bands-sum : (n : ℕ) (es : List ℕ) → Rises n 0 es → n ≤ 4096 → sum _+_ 0 (bandsOf es) ≡ length es
+bands-sum n es r l = rw (bands-are-counts es) (bands-sum-from r l)
+
+-- beside a refusal all are 0
+pub summary-bands-sum : (w es : List ℕ) → sum _+_ 0 (summaryAs (summaryRefusal w es) es .bands) ≡ summaryAs (summaryRefusal w es) es .count
+unfolding sum summaryAs
+summary-bands-sum w es = go (summaryRefusal w es) (summary-accepted w es)
+  where
+    go : (k : ℕ) → (k ≡ 0 → Ends es) → sum _+_ 0 (summaryAs k es .bands) ≡ summaryAs k es .count
+    go zero g = let m = g refl in bands-sum (m .end) es (m .rises) (m .short)
+    go (suc k) g = refl

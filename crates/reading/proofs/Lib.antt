@@ -1,0 +1,8 @@
+pub mod LineLaws
+pub mod EndsRead
+pub mod FactorLaws
+pub mod BitLengths
+pub mod SummaryLaws
+pub mod SummaryAnswers
+pub mod Summing
+pub mod BandsSum

@@ -1,0 +1,3 @@
+pub mod Factor
+pub mod Summary
+pub mod Steps

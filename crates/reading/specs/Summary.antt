@@ -1,0 +1,61 @@
+-- DEFINITIONS. The summary: "the number of pieces; the longest piece's length and first place, the earliest among equals; and the band counts".
+use mathlib.Core.Bool.{true, false}
+use mathlib.Core.List.{List, [], _∷_, map}
+use Prim.Native.Nat.{ℕ, zero, suc, _-_, _/_, max}
+use lib.ListN.{length, replicate}
+use lib.Dec.{eqb}
+use Rattle.checks.specs.Refusals.{firstRefusal, recordRefusal, endsRefusal}
+use Rattle.reading.specs.declared.summary.Summary.{Summary}
+
+-- 1, 2 and 7
+unfoldable pub summaryRefusal : List ℕ → List ℕ → ℕ
+summaryRefusal w es = firstRefusal (recordRefusal w ∷ endsRefusal es (length w) ∷ [])
+
+-- the lengths of the parts that end at es, the first of which begins at a
+unfoldable pub lengthsFrom : ℕ → List ℕ → List ℕ
+lengthsFrom a [] = []
+lengthsFrom a (e ∷ es) = (e - a) ∷ lengthsFrom e es
+
+-- the greatest entry, 0 for none
+unfoldable pub greatest : List ℕ → ℕ
+greatest [] = 0
+greatest (n ∷ ns) = max n (greatest ns)
+
+-- where the earliest part of length n begins, 0 if no part has that length; the parts as in lengthsFrom
+unfoldable pub startOf : ℕ → ℕ → List ℕ → ℕ
+startOf n a [] = 0
+startOf n a (e ∷ es) = elim (eqb (e - a) n) [ true ↦ a | false ↦ startOf n e es ]
+
+-- the number of binary digits of an n below 2 ^ k: halving drops the last digit, and 0 has none
+unfoldable pub bitLengthWithin : ℕ → ℕ → ℕ
+bitLengthWithin zero n = 0
+bitLengthWithin (suc k) zero = 0
+bitLengthWithin (suc k) (suc n) = suc (bitLengthWithin k (suc n / 2))
+
+unfoldable pub bitLength : ℕ → ℕ
+unfolding bitLengthWithin
+bitLength n = bitLengthWithin 16 n
+
+-- how many entries are k
+unfoldable pub countOf : ℕ → List ℕ → ℕ
+countOf k [] = 0
+countOf k (n ∷ ns) = elim (eqb n k) [ true ↦ suc (countOf k ns) | false ↦ countOf k ns ]
+
+-- "A piece's band is the number of binary digits of its length, 1 to 13": how many parts each band has
+unfoldable pub bandsOf : List ℕ → List ℕ
+unfolding lengthsFrom bitLength countOf
+bandsOf es =
+    let bands = map bitLength (lengthsFrom 0 es) in
+    map (λ k. countOf k bands) (1 ∷ 2 ∷ 3 ∷ 4 ∷ 5 ∷ 6 ∷ 7 ∷ 8 ∷ 9 ∷ 10 ∷ 11 ∷ 12 ∷ 13 ∷ [])
+
+-- a refusal's number alone: "Where other numbers must stand beside it, as the summary's, they are 0."
+abbrev pub emptySummary : ℕ → Summary
+emptySummary e = record { refusal = e; count = 0; longest = 0; from = 0; bands = replicate 13 0 }
+
+-- the answer for a refusal's number, 0 for none
+unfoldable pub summaryAs : ℕ → List ℕ → Summary
+unfolding lengthsFrom greatest startOf bandsOf
+summaryAs zero es =
+    let longest = greatest (lengthsFrom 0 es) in
+    record { refusal = 0; count = length es; longest = longest; from = startOf longest 0 es; bands = bandsOf es }
+summaryAs (suc e) es = emptySummary (suc e)
