@@ -1,5 +1,5 @@
 -- The strict cut's promise in each of its three cases: the record is refused, the result buffer is short, the ends are written.
-use mathlib.Core.Path.{_≡_, sym}
+use mathlib.Core.Path.{_≡_}
 use mathlib.Core.Bool.{true}
 use mathlib.Core.List.{List}
 use Prim.Native.Nat.{ℕ, _<_}

@@ -5,7 +5,7 @@ use mathlib.Core.List.{List, [], _∷_, _++_}
 use Prim.Native.Nat.{ℕ, zero, suc, _≤_, _<_}
 use native.Mathlib.Omega.{arith}
 use lib.ListN.{length, drop}
-use lib.Dec.{leb, ltb, eqb}
+use lib.Dec.{ltb, eqb}
 use types.Run.{OneOf}
 use denote.Enum.Declared.{tagOf}
 use Rattle.words.specs.Decisions.{Decides, holds, fails, leb-test, eqb-test}
@@ -50,6 +50,10 @@ filled-refused (suc e) m lines n vs buffer z l = record { answer = ap (λ (t : �
 
 pub filled-done : (n m : ℕ) (vs buffer buffer′ : List ℕ) → m ≡ n → buffer′ ≡ vs ++ drop (length vs) buffer → Filled [] n vs buffer (Counted.Count m) buffer′
 filled-done n m vs buffer buffer′ z e = record { answer = ap (λ (t : ℕ). Counted.Count t) z; result = e }
+
+refuse-is : (a : Bool) (number : ℕ) → 0 < refuse a number → refuse a number ≡ number
+refuse-is true number l = refl
+refuse-is false number l = absurd (omega arith)
 
 -- ---- a condition of two parts
 
@@ -100,3 +104,22 @@ start-accepted first end start e =
 pub number-accepted : (number count : ℕ) → numberRefusal number count ≡ 0 → number < count
 unfolding numberRefusal
 number-accepted number count e = let n = one (leb-test count number) {number = 8} (omega arith) e in omega arith
+
+-- ---- which number a line gives
+
+pub record-refusal-most : (w : List ℕ) → recordRefusal w ≤ 2
+unfolding recordRefusal
+record-refusal-most w = go (eqb (length w) 0) (ltb 4096 (length w))
+  where
+    go : (a b : Bool) → firstRefusal (refuse a 1 ∷ refuse b 2 ∷ []) ≤ 2
+    go true b = omega arith
+    go false true = omega arith
+    go false false = omega arith
+
+pub work-refusal-is : (entries needed : ℕ) → 0 < workRefusal entries needed → workRefusal entries needed ≡ 3
+unfolding workRefusal
+work-refusal-is entries needed l = refuse-is (ltb entries needed) 3 l
+
+pub result-refusal-is : (entries needed : ℕ) → 0 < resultRefusal entries needed → resultRefusal entries needed ≡ 4
+unfolding resultRefusal
+result-refusal-is entries needed l = refuse-is (ltb entries needed) 4 l

@@ -1,9 +1,9 @@
 -- The test's promise in each of its cases: the record is refused, the work buffer is short, the verdict is found and the buffer cleared.
 use mathlib.Core.Path.{_≡_, refl, ap, _∙_}
 use mathlib.Core.List.{List, [], _∷_, _++_}
-use Prim.Native.Nat.{ℕ, zero, suc, _≤_, _<_}
+use Prim.Native.Nat.{ℕ, zero, suc, _<_}
 use native.Mathlib.Omega.{arith}
-use lib.ListN.{length, drop, replicate}
+use lib.ListN.{length, replicate}
 use Rattle.checks.specs.Refusals.{firstRefusal, recordRefusal, workRefusal}
 use Rattle.checks.proofs.RefusalLaws.{Accepted, record-accepted, work-accepted}
 use Rattle.extension.specs.declared.Extension.{Extension}

@@ -1,11 +1,11 @@
 -- Copying a list to the front of another, over plain lists.
 use mathlib.Core.Path.{_≡_, refl, ap, sym, _∙_}
-use mathlib.Core.List.{List, [], _∷_, _++_, append-assoc}
-use Prim.Native.Nat.{ℕ, suc, _+_, _≤_, _<_}
+use mathlib.Core.List.{List, [], _∷_, _++_}
+use Prim.Native.Nat.{ℕ, _+_, _≤_, _<_}
 use native.Mathlib.Numerals.{add-one}
 use native.Mathlib.Omega.{arith}
-use lib.ListN.{length, take, drop, getD, set, length-set, drop-of-length-le}
-use lib.Seq.{take-suc, take-suc-set, drop-set-lt, drop-drop, take-all, length-take-le}
+use lib.ListN.{length, take, drop, getD, set, length-set}
+use lib.Seq.{take-suc, take-suc-set, drop-set-lt, drop-drop, take-all}
 use lib.ListN.{take-append-drop}
 
 pub record Copying (source target₀ target : List ℕ) (i : ℕ) : Type 0 where

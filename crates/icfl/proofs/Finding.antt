@@ -1,7 +1,7 @@
 -- The forward pass, over plain lists: whatever the breaks of the rest are, with those on the stack in front they are the breaks of the word.
 use mathlib.Core.Path.{_≡_, refl, ap, sym, _∙_}
 use mathlib.Core.Bool.{Bool, true, false}
-use mathlib.Core.Logic.{_⊎_, inl, inr}
+use mathlib.Core.Logic.{inl, inr}
 use mathlib.Core.List.{List, [], _∷_, _++_, append-assoc, append-nil}
 use Prim.Native.Nat.{ℕ, suc, _+_, _-_, _*_, _≤_, _<_}
 use native.Mathlib.Omega.{arith}
@@ -11,10 +11,10 @@ use types.Run.{OneOf}
 use denote.Enum.Declared.{tagOf}
 use Rattle.words.specs.Words.{InverseLyndon, isInverseLyndon}
 use Rattle.words.specs.Factorizations.{failingLength, prefixLength, borderLength}
-use Rattle.words.specs.Decisions.{Decides, holds, fails, decides-true, decides-false}
+use Rattle.words.specs.Decisions.{decides-true, decides-false}
 use Rattle.words.specs.WordTests.{inverse-lyndon-test}
 use Rattle.words.specs.Border.{step-is}
-use Rattle.words.specs.IcflFactors.{prefix-positive, prefix-inside}
+use Rattle.words.specs.IcflFactors.{prefix-positive}
 use Rattle.words.specs.Breaks.{Breaks, whole, break}
 use Rattle.extension.specs.declared.Extension.{Extension}
 use Rattle.extension.specs.Extension.{verdictAs, extensionOf, Fits, Verdict}

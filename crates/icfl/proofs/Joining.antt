@@ -5,7 +5,7 @@ use mathlib.Core.List.{List, [], _∷_, _++_, head-eq-of-cons-eq}
 use Prim.Native.Nat.{ℕ, suc, _+_, _-_, _*_, _≤_, _<_}
 use native.Mathlib.Omega.{arith}
 use lib.ListN.{length, take, drop, getD, set, length-set, drop-of-length-le}
-use lib.Seq.{drop-cons, drop-drop, take-take, take-set-le, set-split, drop-at, length-take-le, getD-take, getD-drop}
+use lib.Seq.{drop-cons, take-take, take-set-le, set-split, drop-at, length-take-le, getD-take}
 use lib.Dec.{leb}
 use Rattle.words.specs.Decisions.{Decides, holds, fails, leb-test}
 use Rattle.words.specs.Breaks.{joinEnds, foldEnds}
@@ -72,7 +72,7 @@ pub join-starts : (stack : List ℕ) (count : ℕ) → Stacked stack count → J
 unfolding foldEnds
 join-starts stack count s =
     let none : drop (2 * count) (take (2 * count) stack) ≡ []
-          = drop-of-length-le (take (2 * count) stack) {i = 2 * count} (rw (length-take-le (2 * count) stack (omega (arith, s .entries))) (omega arith)) in
+    = drop-of-length-le (take (2 * count) stack) {i = 2 * count} (rw (length-take-le (2 * count) stack (omega (arith, s .entries))) (omega arith)) in
     let n : suc (2 * count) ≡ 2 * count + 1 = omega arith in
     record {
       upto = omega arith;
@@ -96,7 +96,7 @@ module _ (stack₀ stack : List ℕ) (count k top : ℕ) (s : Stacked stack₀ c
       let size : length (take (2 * count) stack₀) ≡ 2 * count = length-take-le (2 * count) stack₀ (omega (arith, s .entries)) in
       let a : getD (take (2 * count) stack₀) i 0 ≡ getD stack i 0 = getD-take (2 * count) stack₀ i 0 (omega (arith, g .upto)) ∙ same-entry i (omega arith) in
       let b : getD (take (2 * count) stack₀) (i + 1) 0 ≡ getD stack (i + 1) 0
-            = getD-take (2 * count) stack₀ (i + 1) 0 (omega (arith, g .upto)) ∙ same-entry (i + 1) (omega arith) in
+      = getD-take (2 * count) stack₀ (i + 1) 0 (omega (arith, g .upto)) ∙ same-entry (i + 1) (omega arith) in
       let n : suc i ≡ i + 1 = omega arith in
       let m : suc (i + 1) ≡ 2 * k = omega arith in
       drop-cons (take (2 * count) stack₀) i 0 (rw size (omega (arith, g .upto)))
@@ -115,7 +115,7 @@ module _ (stack₀ stack : List ℕ) (count k top : ℕ) (s : Stacked stack₀ c
   first-is : getD stack top 0 ≡ later .head
   first-is =
       let x : getD stack top 0 ∷ drop (suc top) stack ≡ later .head ∷ (later .tail ++ drop (2 * count + 1) stack₀)
-            = sym (drop-cons stack top 0 top-inside) ∙ (g .ends ∙ ap (λ (t : List ℕ). t ++ drop (2 * count + 1) stack₀) (later .is)) in
+      = sym (drop-cons stack top 0 top-inside) ∙ (g .ends ∙ ap (λ (t : List ℕ). t ++ drop (2 * count + 1) stack₀) (later .is)) in
       head-eq-of-cons-eq x
 
   front-before : take (2 * (k - 1)) stack ≡ take (2 * (k - 1)) stack₀
@@ -124,13 +124,13 @@ module _ (stack₀ stack : List ℕ) (count k top : ℕ) (s : Stacked stack₀ c
   pub joined-on : getD stack top 0 ≤ getD stack i 0 + getD stack (i + 1) 0 → Joining stack₀ stack count (k - 1) top
   joined-on l =
       let e : endsAfter stack₀ count (k - 1) ≡ endsAfter stack₀ count k
-            = before ∙ (rw (later .is) (join-joined (getD stack i 0) (getD stack (i + 1) 0) (later .head) (later .tail) (rw first-is at l))) in
+      = before ∙ (rw (later .is) (join-joined (getD stack i 0) (getD stack (i + 1) 0) (later .head) (later .tail) (rw first-is at l))) in
       record { upto = omega (arith, g .upto); low = omega (arith, g .low); high = g .high; front = front-before; ends = rw e (g .ends); long = g .long }
 
   pub kept-on : getD stack i 0 + getD stack (i + 1) 0 < getD stack top 0 → Joining stack₀ (set stack (top - 1) (getD stack i 0)) count (k - 1) (top - 1)
   kept-on l =
       let e : endsAfter stack₀ count (k - 1) ≡ getD stack i 0 ∷ endsAfter stack₀ count k
-            = before ∙ (rw (later .is) (join-kept (getD stack i 0) (getD stack (i + 1) 0) (later .head) (later .tail) (rw first-is at l))) in
+      = before ∙ (rw (later .is) (join-kept (getD stack i 0) (getD stack (i + 1) 0) (later .head) (later .tail) (rw first-is at l))) in
       let n : suc (top - 1) ≡ top = omega (arith, g .low) in
       record {
         upto = omega (arith, g .upto);

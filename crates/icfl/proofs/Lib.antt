@@ -1,3 +1,5 @@
 pub mod Joining
 pub mod Finding
 pub mod Copying
+pub mod Gathering
+pub mod IcflCases

@@ -24,7 +24,12 @@ fn find_breaks(word: &[u8], work: &mut [u16]) -> usize
     let mut count: usize = 0;
     while from < n {
         let found = extension::extension_of(&word[from..], work);
-        let Extension::Failing { failing: _, prefix, border } = found else {
+        let Extension::Failing {
+            failing: _,
+            prefix,
+            border,
+        } = found
+        else {
             return count;
         };
         from += prefix;

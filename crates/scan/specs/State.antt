@@ -1,5 +1,5 @@
 -- DEFINITIONS. The scan's state, and what its functions ask and promise. What a state means is Scanned of the theory.
-use mathlib.Core.Bool.{Bool, true, false}
+use mathlib.Core.Bool.{true, false}
 use mathlib.Core.List.{List}
 use Prim.Native.Nat.{ℕ, _+_, _≤_, _<_}
 use lib.ListN.{length}

@@ -96,7 +96,7 @@ loop-less : tie.Need-loop-less Inv-loop μ-loop
 loop-less c = omega (arith, fails-at c .positive, inside-at c, c .before .before .before .before .before .before .before .before .before .loop .inv .size)
 
 loop-again : tie.Need-loop-again Inv-loop μ-loop
-loop-again c = 
+loop-again c =
     find-on (c .before .before .before .before .before .before .before .before .before .before .before .before .args .word .now) (c .before .before .before .before .before .before .before .before .before .before .before .before .args .work .now) (c .before .before .before .before .before .before .before .before .before .loop .work) (c .before .before .before .before .before .extension-of .last .1 .0) _ (c .before .before .before .before .before .before .before .before .before .loop .from)
     (c .before .before .before .before .before .before .before .before .before .loop .count) (c .before .before .before .before .before .before .before .before .before .loop .inv) _ (c .before .before .before .before .before .extension-of .ensures) _ _ _ (c .before .found .given .1)
     (omega (arith, c .before .before .before .before .before .before .before .before .before .loop .inv .long, c .before .before .before .before .before .extension-of .kept, c .before .before .before .before .before .before .before .before .before .before .before .before .pre .entries)) (c .before .before .before .before .before .extension-of .kept .1 .0)

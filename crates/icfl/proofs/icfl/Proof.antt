@@ -1,128 +1,129 @@
+-- The checks; the ends are found in the work buffer; then line 4 refuses, or they are copied; either way the buffer is cleared.
+use borrow.Author.Needs.{needs}
+use mathlib.Core.Path.{_≡_}
+use Prim.Native.Nat.{_+_, _*_, _≤_}
+use native.Mathlib.Omega.{arith}
+use lib.ListN.{length, length-take, length-drop}
+use Rattle.checks.specs.Refusals.{recordRefusal, workRefusal}
+use Rattle.checks.proofs.RefusalLaws.{Accepted, passed, refused, number-is, record-accepted, result-accepted}
+use Rattle.icfl.specs.Icfl.{Roomy}
+use Rattle.icfl.proofs.IcflCases.{record-refused, work-refused, roomy, result-refused, ends-written}
 use borrow.Author.Needs.{needs}
 use Rattle.icfl.proofs.icfl.Statement.{statement}
 use Rattle.icfl.proofs.icfl.Tie as tie
-use Rattle.icfl.proofs.icfl.Reads as reads
-use Rattle.icfl.proofs.icfl.Lts as lts
-use Rattle.checks.proofs.Checked.number.Reads as number-reads
-use Rattle.checks.proofs.check_record.Reads as check-record-reads
-use Rattle.checks.proofs.check_result.Reads as check-result-reads
-use Rattle.checks.proofs.check_work.Reads as check-work-reads
-use Rattle.extension.proofs.clear.Reads as clear-reads
-use Rattle.icfl.proofs.copy.Reads as copy-reads
-use Rattle.icfl.proofs.find_ends.Reads as find-ends-reads
 
--- src/lib.rt:91:9
+-- past the check of the record, and past the check of the work buffer
+passed-at : (c : tie.After-enum-told) → recordRefusal (c .before .before .before .before .before .before .args .word .now) ≡ 0
+passed-at c = passed _ _ (c .before .before .check-record .ensures) (c .before .match .keys1)
+
+spacious-at : (c : tie.After-enum-told3) → workRefusal (length (c .before .before .before .before .before .before .before .before .before .args .work .now)) (3 * length (c .before .before .before .before .before .before .before .before .before .args .word .now)) ≡ 0
+spacious-at c = passed _ _ (c .before .before .check-work .ensures) (c .before .match2 .keys1)
+
+roomy-at : (c : tie.After-enum-told3) → Roomy (c .before .before .before .before .before .before .before .before .before .args .word .now) (c .before .before .before .before .before .before .before .before .before .args .work .now)
+roomy-at c = roomy _ _ (c .before .before .before .before .before .before .before .before .before .args .ends .now) (passed-at (c .before .before .before)) (spacious-at c)
+
+-- the ends that are found lie in the work buffer
+inside-at : (c : tie.After-find-ends) → c .find-ends .result .first + c .find-ends .result .count ≤ length (c .find-ends .last .1 .0)
+inside-at c = omega (arith, c .find-ends .ensures .inside, c .find-ends .kept, roomy-at (c .before .before) .entries)
+
 check-record-requires : tie.Need-check-record-requires
 check-record-requires c κs = search needs
 
 enum-told : tie.Need-enum-told
 enum-told c = search needs
 
--- src/lib.rt:93:33
 enum-told-2 : tie.Need-enum-told-2
 enum-told-2 c = search needs
 
--- src/lib.rt:93:33
 number-requires : tie.Need-number-requires
 number-requires c κs = search needs
 
--- src/lib.rt:93:9
 returns : tie.Need-returns
-returns c = ?
+returns c =
+    let call = c .before .before .before .check-record in
+    record-refused _ _ _ _ (number-is _ _ _ (call .ensures) (c .number .ensures)) (refused _ _ (call .ensures) (c .before .before .match .keys2))
 
--- src/lib.rt:95:16
 mul-used : tie.Need-mul-used
-mul-used c = ?
+mul-used c = omega (arith, record-accepted _ (passed-at c) .short)
 
--- src/lib.rt:96:9
 check-work-requires : tie.Need-check-work-requires
 check-work-requires c κs = search needs
 
 enum-told-3 : tie.Need-enum-told-3
 enum-told-3 c = search needs
 
--- src/lib.rt:98:33
 enum-told-4 : tie.Need-enum-told-4
 enum-told-4 c = search needs
 
--- src/lib.rt:98:33
 number-requires-2 : tie.Need-number-requires-2
 number-requires-2 c κs = search needs
 
--- src/lib.rt:98:9
 returns-2 : tie.Need-returns-2
-returns-2 c = ?
+returns-2 c =
+    let call = c .before .before .before .check-work in
+    work-refused _ _ _ (passed-at (c .before .before .before .before)) _ (number-is _ _ _ (call .ensures) (c .number2 .ensures)) (refused _ _ (call .ensures) (c .before .before .match2 .keys2))
 
--- src/lib.rt:100:9
 find-ends-requires : tie.Need-find-ends-requires
-find-ends-requires c κs = ?
+find-ends-requires c κs = roomy-at (c .before)
 
--- src/lib.rt:103:9
 check-result-requires : tie.Need-check-result-requires
 check-result-requires c κs = search needs
 
 enum-told-5 : tie.Need-enum-told-5
 enum-told-5 c = search needs
 
--- src/lib.rt:105:26
 enum-told-6 : tie.Need-enum-told-6
 enum-told-6 c = search needs
 
--- src/lib.rt:105:9
 clear-requires : tie.Need-clear-requires
-clear-requires c κs = ?
+clear-requires c κs = omega (arith, c .before .before .before .before .before .before .find-ends .kept, roomy-at (c .before .before .before .before .before .before .before .before) .entries)
 
--- src/lib.rt:106:33
 number-requires-3 : tie.Need-number-requires-3
 number-requires-3 c κs = search needs
 
--- src/lib.rt:106:9
 same-length : tie.Need-same-length
 same-length c = search needs
 
--- src/lib.rt:106:9
 returns-3 : tie.Need-returns-3
-returns-3 c = ?
+returns-3 c =
+    let call = c .before .before .before .before .before .before .before .check-result in
+    let found = c .before .before .before .before .before .before .before .before .before .before .find-ends in
+    result-refused (c .before .before .before .before .before .before .before .before .before .before .before .before .before .before .before .before .before .before .before .before .before .args .word .now) (c .before .before .before .before .before .before .before .before .before .before .before .before .before .before .before .before .before .before .before .before .before .args .work .now) (c .before .before .before .before .before .before .before .before .before .before .before .before .before .before .before .before .before .before .before .before .before .args .ends .now) (passed-at (c .before .before .before .before .before .before .before .before .before .before .before .before .before .before .before)) (spacious-at (c .before .before .before .before .before .before .before .before .before .before .before .before)) _ _ _ (found .ensures) (c .before .before .before .clear .ensures) _
+    (number-is _ _ _ (call .ensures) (c .number3 .ensures)) (refused _ _ (call .ensures) (c .before .before .before .before .before .before .match3 .keys2))
 
--- src/lib.rt:108:23
 add-copy : tie.Need-add-copy
-add-copy c = ?
+add-copy c = omega (arith, c .before .before .before .before .before .find-ends .ensures .inside, roomy-at (c .before .before .before .before .before .before .before) .short)
 
--- src/lib.rt:108:10
 mul-copy : tie.Need-mul-copy
-mul-copy c = ?
+mul-copy c = omega (arith, c .before .before .before .before .before .find-ends .ensures .inside, roomy-at (c .before .before .before .before .before .before .before) .short)
 
--- src/lib.rt:108:10
 sub-copy : tie.Need-sub-copy
 sub-copy c = search needs
 
--- src/lib.rt:108:10
 part-copy-start : tie.Need-part-copy-start
 part-copy-start c = search needs
 
--- src/lib.rt:108:10
 part-copy-end : tie.Need-part-copy-end
-part-copy-end c = ?
+part-copy-end c = omega (arith, inside-at (c .before .before .before .before .before .before))
 
--- src/lib.rt:108:5
 copy-requires : tie.Need-copy-requires
-copy-requires c κs = ?
+copy-requires c κs =
+    let room = result-accepted _ _ (passed _ _ (c .before .before .before .before .before .check-result .ensures) (c .before .before .before .before .match3 .keys1)) in
+    simp (length-take, length-drop) (omega (arith, room))
 
--- src/lib.rt:109:5
 clear-requires-2 : tie.Need-clear-requires-2
-clear-requires-2 c κs = ?
+clear-requires-2 c κs = omega (arith, c .before .before .before .before .before .before .before .before .before .before .before .before .find-ends .kept, roomy-at (c .before .before .before .before .before .before .before .before .before .before .before .before .before .before) .entries)
 
--- src/lib.rt:88:1
 same-length-2 : tie.Need-same-length-2
 same-length-2 c = search needs
 
--- src/lib.rt:88:1
 same-length-3 : tie.Need-same-length-3
 same-length-3 c = search needs
 
--- src/lib.rt:88:1
 returns-4 : tie.Need-returns-4
-returns-4 c = ?
+returns-4 c =
+    ends-written (c .before .before .before .before .before .before .before .before .before .before .before .before .before .before .before .before .before .before .before .before .before .before .before .before .before .before .args .word .now) (c .before .before .before .before .before .before .before .before .before .before .before .before .before .before .before .before .before .before .before .before .before .before .before .before .before .before .args .work .now) (c .before .before .before .before .before .before .before .before .before .before .before .before .before .before .before .before .before .before .before .before .before .before .before .before .before .before .args .ends .now) (passed-at (c .before .before .before .before .before .before .before .before .before .before .before .before .before .before .before .before .before .before .before .before)) (spacious-at (c .before .before .before .before .before .before .before .before .before .before .before .before .before .before .before .before .before)) (c .before .before .before .before .before .before .before .before .before .before .before .before .before .before .before .find-ends .result) _ _ (c .before .before .before .before .before .before .before .before .before .before .before .before .before .before .before .find-ends .ensures) (c .before .before .clear2 .ensures) _
+    (passed _ _ (c .before .before .before .before .before .before .before .before .before .before .before .before .check-result .ensures) (c .before .before .before .before .before .before .before .before .before .before .before .match3 .keys1)) (c .before .before .before .before .before .before .copy .ensures)
 
 pub icfl-spec : {M : Type 1} → statement M
 icfl-spec =
