@@ -1,2 +1,3 @@
 pub mod RefusalLaws
 pub mod EndsLaws
+pub mod LineLaws

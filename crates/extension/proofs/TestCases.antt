@@ -4,7 +4,8 @@ use mathlib.Core.List.{List, [], _∷_, _++_}
 use Prim.Native.Nat.{ℕ, zero, suc, _<_}
 use native.Mathlib.Omega.{arith}
 use lib.ListN.{length, replicate}
-use Rattle.checks.specs.Refusals.{firstRefusal, recordRefusal, workRefusal}
+use Rattle.checks.specs.Refusals.{recordRefusal, workRefusal}
+use Rattle.checks.proofs.LineLaws.{first-here}
 use Rattle.checks.proofs.RefusalLaws.{Accepted, record-accepted, work-accepted}
 use Rattle.extension.specs.declared.Extension.{Extension}
 use Rattle.extension.specs.Extension.{extensionAs, clearedAs, cleared, extensionOf, ExtensionFound, Fits, Verdict}
@@ -17,19 +18,15 @@ refused-buffer : (e n : ℕ) (work : List ℕ) → 0 < e → work ≡ clearedAs 
 refused-buffer zero n work l = absurd (omega arith)
 refused-buffer (suc e) n work l = refl
 
-line-first : (e : ℕ) (lines : List ℕ) → 0 < e → firstRefusal (e ∷ lines) ≡ e
-line-first zero lines l = absurd (omega arith)
-line-first (suc e) lines l = refl
-
 pub record-refused : (w work : List ℕ) (m : ℕ) → m ≡ recordRefusal w → 0 < recordRefusal w → ExtensionFound w work (Extension.Refused m) work
 record-refused w work m e l =
-    let first = line-first (recordRefusal w) (workRefusal (length work) (length w) ∷ []) l in
+    let first = first-here (recordRefusal w) (workRefusal (length work) (length w) ∷ []) l in
     record { answer = rw first (refused-as (recordRefusal w) m (extensionOf w) e l); buffer = rw first (refused-buffer (recordRefusal w) (length w) work l) }
 
 module _ (w work : List ℕ) (accepted : recordRefusal w ≡ 0) where
   pub work-refused : (m : ℕ) → m ≡ workRefusal (length work) (length w) → 0 < workRefusal (length work) (length w) → ExtensionFound w work (Extension.Refused m) work
   work-refused m e l =
-      let first = line-first (workRefusal (length work) (length w)) [] l in
+      let first = first-here (workRefusal (length work) (length w)) [] l in
       record {
         answer = rw (accepted, first) (refused-as (workRefusal (length work) (length w)) m (extensionOf w) e l);
         buffer = rw (accepted, first) (refused-buffer (workRefusal (length work) (length w)) (length w) work l);

@@ -1,21 +1,18 @@
 -- The piece cut's promise in each of its cases: refused by 1 or 2, by 3, by 4, or done.
-use mathlib.Core.Path.{_≡_, refl, ap, _∙_}
+use mathlib.Core.Path.{_≡_, ap, _∙_}
 use mathlib.Core.List.{List, [], _∷_, _++_}
-use Prim.Native.Nat.{ℕ, zero, suc, _+_, _-_, _*_, _<_}
+use Prim.Native.Nat.{ℕ, _+_, _-_, _*_, _<_}
 use native.Mathlib.Omega.{arith}
 use borrow.Author.Tests.{ne-eqb}
 use lib.ListN.{length, take, drop, replicate}
 use Rattle.words.specs.Factorizations.{icflEnds}
-use Rattle.checks.specs.Refusals.{firstRefusal, recordRefusal, workRefusal, resultRefusal}
+use Rattle.checks.specs.Refusals.{recordRefusal, workRefusal, resultRefusal}
 use Rattle.checks.specs.declared.Counted.{Counted}
+use Rattle.checks.proofs.LineLaws.{first-here}
 use Rattle.checks.proofs.RefusalLaws.{Accepted, record-accepted, work-accepted, filled-passed, filled-refused, filled-done, record-refusal-most, work-refusal-is, result-refusal-is}
 use Rattle.extension.specs.Extension.{cleared}
 use Rattle.icfl.specs.declared.Ends.{Ends}
 use Rattle.icfl.specs.Icfl.{workAfter, IcflDone, Roomy, EndsFound}
-
-line-first : (e : ℕ) (lines : List ℕ) → 0 < e → firstRefusal (e ∷ lines) ≡ e
-line-first zero lines l = absurd (omega arith)
-line-first (suc e) lines l = refl
 
 -- refusals 1, 2 and 3 leave the work buffer
 work-kept : (e n : ℕ) (work : List ℕ) → 0 < e → e < 4 → work ≡ workAfter e n work
@@ -24,17 +21,16 @@ work-kept e n work l m = rw (ne-eqb e 0 (λ z. omega arith), ne-eqb e 4 (λ z. o
 pub record-refused : (w work buffer : List ℕ) (m : ℕ) → m ≡ recordRefusal w → 0 < recordRefusal w → IcflDone w work buffer (Counted.Refused m) work buffer
 record-refused w work buffer m e l = record {
   filled = filled-refused (recordRefusal w) m _ _ _ _ e l;
-  worked = rw (line-first (recordRefusal w) (workRefusal (length work) (3 * length w) ∷ resultRefusal (length buffer) (length (icflEnds w)) ∷ []) l)
+  worked = rw (first-here (recordRefusal w) (workRefusal (length work) (3 * length w) ∷ resultRefusal (length buffer) (length (icflEnds w)) ∷ []) l)
       (work-kept (recordRefusal w) (3 * length w) work l (omega (arith, record-refusal-most w)));
 }
 
 module _ (w work buffer : List ℕ) (accepted : recordRefusal w ≡ 0) where
   pub work-refused : (m : ℕ) → m ≡ workRefusal (length work) (3 * length w) → 0 < workRefusal (length work) (3 * length w) → IcflDone w work buffer (Counted.Refused m) work buffer
   work-refused m e l =
-      let line : ℕ = workRefusal (length work) (3 * length w) in
       record {
         filled = filled-passed accepted (filled-refused (workRefusal (length work) (3 * length w)) m _ _ _ _ e l);
-        worked = rw (accepted, line-first (workRefusal (length work) (3 * length w)) (resultRefusal (length buffer) (length (icflEnds w)) ∷ []) l)
+        worked = rw (accepted, first-here (workRefusal (length work) (3 * length w)) (resultRefusal (length buffer) (length (icflEnds w)) ∷ []) l)
             (work-kept (workRefusal (length work) (3 * length w)) (3 * length w) work l (omega (arith, work-refusal-is (length work) (3 * length w) l)));
       }
 

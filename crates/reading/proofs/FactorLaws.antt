@@ -1,6 +1,6 @@
 -- The reader: what an accepted call tells (factor-accepted), its checks in their order, and that the code's part is the definition's
 -- slice (part-slice).
-use mathlib.Core.Path.{_≡_, refl, _∙_}
+use mathlib.Core.Path.{_≡_, sym, refl, _∙_}
 use mathlib.Core.List.{List, [], _∷_}
 use Prim.Native.Nat.{ℕ, zero, suc, _-_, _≤_, _<_}
 use native.Mathlib.Omega.{arith}
@@ -14,7 +14,7 @@ use Rattle.checks.specs.Answers.{checkedAs, numberOf}
 use Rattle.checks.specs.Refusals.{recordRefusal, endsRefusal, numberRefusal}
 use Rattle.checks.proofs.RefusalLaws.{number-accepted}
 use Rattle.reading.specs.Factor.{factorRefusal, factorFrom, factorAs}
-use Rattle.reading.proofs.LineLaws.{first-last, first-none, line-refused, line-passed, line-last}
+use Rattle.checks.proofs.LineLaws.{first-last, first-none, line-refused, line-passed, line-last}
 use Rattle.reading.proofs.EndsRead.{ends-accepted, rises-at}
 
 -- part k lies in the record
@@ -29,7 +29,7 @@ factor-accepted w es k e =
     let seven : ℕ = endsRefusal es (length w) in
     let eight : ℕ = numberRefusal k (length es) in
     let lines = first-none seven (eight ∷ []) (first-none (recordRefusal w) (seven ∷ eight ∷ []) e .1) in
-    let l = number-accepted k (length es) (first-last eight ∙ lines .1) in
+    let l = number-accepted k (length es) (sym (first-last eight) ∙ lines .1) in
     let r = rises-at (ends-accepted es (length w) (lines .0)) k l in
     record { listed = l; ordered = r .0; inside = r .1 }
 

@@ -1,4 +1,3 @@
-pub mod LineLaws
 pub mod EndsRead
 pub mod FactorLaws
 pub mod BitLengths

@@ -13,7 +13,7 @@ use Rattle.checks.specs.Refusals.{recordRefusal, endsRefusal}
 use Rattle.checks.proofs.RefusalLaws.{record-accepted, number-checked, passed, refused}
 use Rattle.reading.specs.Summary.{summaryRefusal, emptySummary, summaryAs}
 use Rattle.reading.specs.Steps.{Ends}
-use Rattle.reading.proofs.LineLaws.{first-last, first-none, line-refused, line-passed, line-last}
+use Rattle.checks.proofs.LineLaws.{first-last, first-none, line-refused, line-passed, line-last}
 use Rattle.reading.proofs.EndsRead.{ends-accepted}
 
 pub summary-accepted : (w es : List ℕ) → summaryRefusal w es ≡ 0 → Ends es
@@ -21,7 +21,7 @@ unfolding summaryRefusal
 summary-accepted w es e =
     let seven : ℕ = endsRefusal es (length w) in
     let lines = first-none (recordRefusal w) (seven ∷ []) e in
-    record { end = length w; rises = ends-accepted es (length w) (first-last seven ∙ lines .1); short = record-accepted w (lines .0) .short }
+    record { end = length w; rises = ends-accepted es (length w) (sym (first-last seven) ∙ lines .1); short = record-accepted w (lines .0) .short }
 
 -- ---- the checks a and b of lines 1 and 2, and 7, up to the first that refuses
 

@@ -66,3 +66,4 @@ pub mod Period
 pub mod Scanned
 pub mod Borders
 pub mod Breaks
+pub mod Merging

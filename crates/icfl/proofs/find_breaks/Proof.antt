@@ -1,7 +1,6 @@
 -- Each turn tests the rest; where it fails, one break goes on the stack and the rest begins where p ends.
 use borrow.Author.Needs.{needs}
-use mathlib.Core.Path.{_≡_}
-use Prim.Native.Nat.{_+_, _-_, _*_, _≤_, _<_}
+use Prim.Native.Nat.{_+_, _-_, _*_, _<_}
 use native.Mathlib.Omega.{arith}
 use lib.ListN.{length, drop, length-set}
 use Rattle.icfl.proofs.Finding.{Finding, Fails, find-starts, find-fits, find-ends, found, step-inside, find-on}

@@ -1,8 +1,7 @@
 -- The breaks, the word's end after them, and the backward pass over both.
 use borrow.Author.Needs.{needs}
-use Prim.Native.Nat.{_+_, _*_}
 use native.Mathlib.Omega.{arith}
-use lib.ListN.{length, length-set}
+use lib.ListN.{length-set}
 use Rattle.icfl.proofs.Gathering.{stacked, long-kept, ends-found}
 use borrow.Author.Needs.{needs}
 use Rattle.icfl.proofs.find_ends.Statement.{statement}

@@ -5,7 +5,7 @@ use Prim.Native.Nat.{_+_, _*_, _≤_}
 use native.Mathlib.Omega.{arith}
 use lib.ListN.{length, length-take, length-drop}
 use Rattle.checks.specs.Refusals.{recordRefusal, workRefusal}
-use Rattle.checks.proofs.RefusalLaws.{Accepted, passed, refused, number-is, record-accepted, result-accepted}
+use Rattle.checks.proofs.RefusalLaws.{passed, refused, number-is, record-accepted, result-accepted}
 use Rattle.icfl.specs.Icfl.{Roomy}
 use Rattle.icfl.proofs.IcflCases.{record-refused, work-refused, roomy, result-refused, ends-written}
 use borrow.Author.Needs.{needs}

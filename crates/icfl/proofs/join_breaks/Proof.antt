@@ -1,9 +1,8 @@
 -- From entry top on stand the ends of what follows the breaks that are left; each turn takes one break off, and keeps its end or not.
 use borrow.Author.Needs.{needs}
-use mathlib.Core.Path.{_≡_}
 use Prim.Native.Nat.{_+_, _-_, _*_, _<_}
 use native.Mathlib.Omega.{arith}
-use lib.ListN.{length, getD}
+use lib.ListN.{length}
 use Rattle.icfl.proofs.Joining.{Joining, join-starts, top-inside, joined-on, kept-on, join-ends}
 use Rattle.icfl.proofs.join_breaks.Statement.{statement}
 use Rattle.icfl.proofs.join_breaks.Tie as tie

@@ -1,25 +1,25 @@
--- The lines of the refusal table in their order: the number of the first line that refuses is the answer, and none refuses where all pass.
-use mathlib.Core.Path.{_≡_, refl, _∙_, ap}
+-- The lines of the table in their order: the number of the first line that refuses is the call's, and none refuses where all pass.
+use mathlib.Core.Path.{_≡_, refl, ap, sym, _∙_}
 use mathlib.Core.List.{List, [], _∷_}
 use Prim.Native.Nat.{ℕ, zero, suc, _<_}
 use native.Mathlib.Omega.{arith}
 use types.Run.{OneOf}
 use denote.Enum.Declared.{tagOf}
 use Rattle.checks.proofs.Checked.{the-type}
 use Rattle.checks.specs.declared.Checked.{Checked}
 use Rattle.checks.specs.Refusals.{firstRefusal}
 use Rattle.checks.specs.Answers.{checkedAs, numberOf}
 use Rattle.checks.proofs.RefusalLaws.{number-checked, passed, refused}
 
-first-here : (a : ℕ) (lines : List ℕ) → 0 < a → a ≡ firstRefusal (a ∷ lines)
+pub first-here : (a : ℕ) (lines : List ℕ) → 0 < a → firstRefusal (a ∷ lines) ≡ a
 first-here zero lines l = absurd (omega arith)
 first-here (suc a) lines l = refl
 
-first-next : (a : ℕ) (lines : List ℕ) → a ≡ 0 → firstRefusal lines ≡ firstRefusal (a ∷ lines)
+pub first-next : (a : ℕ) (lines : List ℕ) → a ≡ 0 → firstRefusal (a ∷ lines) ≡ firstRefusal lines
 first-next zero lines e = refl
 first-next (suc a) lines e = absurd (omega arith)
 
-pub first-last : (a : ℕ) → a ≡ firstRefusal (a ∷ [])
+pub first-last : (a : ℕ) → firstRefusal (a ∷ []) ≡ a
 first-last zero = refl
 first-last (suc a) = refl
 
@@ -32,11 +32,11 @@ first-none (suc a) lines e = absurd (omega arith)
 
 pub line-refused : (k : Checked) (a : ℕ) (lines : List ℕ) → k ≡ checkedAs a → OneOf (1 ∷ []) (tagOf the-type k)
     → numberOf k ≡ firstRefusal (a ∷ lines)
-line-refused k a lines e h = ap numberOf e ∙ number-checked a ∙ first-here a lines (refused k a e h)
+line-refused k a lines e h = ap numberOf e ∙ number-checked a ∙ sym (first-here a lines (refused k a e h))
 
 pub line-passed : (k : Checked) (a : ℕ) (lines : List ℕ) → k ≡ checkedAs a → OneOf (0 ∷ []) (tagOf the-type k)
     → firstRefusal lines ≡ firstRefusal (a ∷ lines)
-line-passed k a lines e h = first-next a lines (passed k a e h)
+line-passed k a lines e h = sym (first-next a lines (passed k a e h))
 
 pub line-last : (k : Checked) (a : ℕ) → k ≡ checkedAs a → numberOf k ≡ firstRefusal (a ∷ [])
-line-last k a e = ap numberOf e ∙ number-checked a ∙ first-last a
+line-last k a e = ap numberOf e ∙ number-checked a ∙ sym (first-last a)

@@ -1,0 +1,3 @@
+pub mod CommonLength
+pub mod InverseSignLaws
+pub mod ComparisonLaws

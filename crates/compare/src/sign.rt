@@ -1,0 +1,24 @@
+//! The sign of two words in the inverse order.
+use super::common::common_length;
+ghost use mathlib.Core.Path.{_≡_};
+ghost use Rattle.compare.specs.Compare.{inverseSign};
+
+/// −1 if x comes before y in the inverse order, 0 if they are the same, +1 otherwise.
+pub fn inverse_sign(x: &[u8], y: &[u8]) -> i8
+    ensures { λ r. ⌜ r ≡ inverseSign (now (x .entry)) (now (y .entry)) ⌝ }
+{
+    let l = common_length(x, y);
+    if l == x.len() {
+        if l == y.len() {
+            return 0;
+        }
+        return -1;
+    }
+    if l == y.len() {
+        return 1;
+    }
+    if x[l] < y[l] {
+        return 1;
+    }
+    -1
+}

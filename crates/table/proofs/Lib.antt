@@ -1,0 +1,4 @@
+pub mod BeforeLaws
+pub mod MergeLaws
+pub mod FillLaws
+pub mod TableLaws

@@ -1,0 +1,17 @@
+-- What the steps of the Lyndon table ask of their arguments.
+use mathlib.Core.Path.{_≡_}
+use mathlib.Core.List.{List}
+use Prim.Native.Nat.{ℕ, _≤_, _<_}
+use lib.ListN.{length, getD}
+use Rattle.words.specs.Factorizations.{lyndonTable}
+
+-- the entries fit into 16 bits, and the buffer has room for them
+pub record Fits (w out : List ℕ) : Type 0 where
+  pub short : length w ≤ 4096
+  pub room : length w ≤ length out
+
+-- the entries after i are those of the table
+pub record TabledAfter (w out : List ℕ) (i : ℕ) : Type 0 where
+  pub inside : i < length w
+  pub room : length w ≤ length out
+  pub entries : (k : ℕ) → i < k → k < length w → getD out k 0 ≡ getD (lyndonTable w) k 0
