@@ -31,7 +31,7 @@ module _ (w : List ℕ) where
   icfl-first : (e : ℕ) → Boundary e (icfl w) → FirstSuffix e w
   icfl-first e b = rw (icfl-concat w) at (boundary-first (dominated-led (icfl-dominated w)) b)
 
-  icfl-inside : (e : ℕ) → Boundary e (icfl w) → e ≤ length w
+  pub icfl-inside : (e : ℕ) → Boundary e (icfl w) → e ≤ length w
   icfl-inside e b = rw (icfl-concat w) at (boundary-inside b)
 
   -- ---- factors by their places
