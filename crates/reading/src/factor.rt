@@ -5,8 +5,8 @@ ghost use Prim.Native.Nat.{_<_};
 ghost use lib.ListN.{length};
 ghost use Rattle.reading.specs.Factor.{factorRefusal, factorFrom, FactorAt};
 
-// The number of the first line that refuses, of 1, 2, 7 and 8 in this order; 0 for none.
-fn factor_refusal(word: &[u8], ends: &[u16], number: usize) -> u8
+/// The number of the first line that refuses, of 1, 2, 7 and 8 in this order; 0 for none.
+pub fn factor_refusal(word: &[u8], ends: &[u16], number: usize) -> u8
     ensures { λ r. ⌜ r ≡ factorRefusal (now (word .entry)) (now (ends .entry)) number ⌝ }
 {
     let recorded = checks::check_record(word);
@@ -21,8 +21,8 @@ fn factor_refusal(word: &[u8], ends: &[u16], number: usize) -> u8
     numbered.number()
 }
 
-// Where a part begins: the end before it, and 0 for the first.
-fn factor_from(ends: &[u16], number: usize) -> u16
+/// Where a part begins: the end before it, and 0 for the first.
+pub fn factor_from(ends: &[u16], number: usize) -> u16
     requires { ⌜ number < length (now ends) ⌝ }
     ensures { λ r. ⌜ r ≡ factorFrom (now (ends .entry)) number ⌝ }
 {

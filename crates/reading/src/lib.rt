@@ -4,5 +4,7 @@ mod factor;
 mod summary;
 
 pub use factor::factor_at;
+pub use factor::factor_from;
+pub use factor::factor_refusal;
 pub use summary::Summary;
 pub use summary::summarize;

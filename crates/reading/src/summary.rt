@@ -5,6 +5,7 @@ ghost use Rattle.reading.specs.Summary.{bitLength, emptySummary, summary
 ghost use Rattle.reading.specs.Steps.{Room, WithFactor, Ends};
 
 /// What the parts come to. Beside a refusal all fields but its number are 0.
+#[repr(C)]
 pub struct Summary {
     /// The refusal's number, 0 for a result.
     pub refusal: u8,

@@ -55,6 +55,7 @@ pub mod FirstSuffixes
 pub mod Ends
 pub mod Neighbours
 pub mod Ranges
+pub mod EndsRise
 -- one step of the factorization
 pub mod Extension
 pub mod Failing

@@ -1,0 +1,148 @@
+//! The calls for C and Rust: include/metsroeb.h has their signatures. Each returns the refusal's number, 0 for a result; results go to numbers that the caller lends, 0 beside a
+//! refusal.
+use checks::Counted;
+use compare::Comparison;
+use extension::Extension;
+use reading::Summary;
+ghost use mathlib.Core.Path.{_≡_};
+ghost use Rattle.reading.specs.Summary.{summaryRefusal, summaryAs};
+ghost use Rattle.exports.specs.Exports.{Small, replyOf, TestNumbers, IcflNumbers, CflInNumbers, TableNumbers, SignNumber, FactorNumbers};
+
+/// A count or a refusal, as two numbers.
+pub struct Reply {
+    pub refusal: u8,
+    pub count: u16,
+}
+
+fn numbers_of(answer: Counted) -> Reply
+    requires { ⌜ Small answer ⌝ }
+    ensures { λ r. ⌜ r ≡ replyOf answer ⌝ }
+{
+    match answer {
+        Counted::Count(n) => Reply {
+            refusal: 0,
+            count: n as u16,
+        },
+        Counted::Refused(e) => Reply {
+            refusal: e,
+            count: 0,
+        },
+    }
+}
+
+#[no_mangle]
+pub extern "C" fn metsroeb_test(
+    word: &[u8],
+    work: &mut [u16],
+    failing: &mut u16,
+    prefix: &mut u16,
+    border: &mut u16,
+) -> u8
+    ensures { λ r. ⌜ TestNumbers (now (word .entry)) (now (work .entry)) r (now (failing .exit)) (now (prefix .exit)) (now (border .exit)) (now (work .exit)) ⌝ }
+{
+    *failing = 0;
+    *prefix = 0;
+    *border = 0;
+    let found = extension::find_extension(word, work);
+    match found {
+        Extension::InverseLyndon => 0,
+        Extension::Failing {
+            failing: l,
+            prefix: p,
+            border: r,
+        } => {
+            *failing = l as u16;
+            *prefix = p as u16;
+            *border = r as u16;
+            0
+        }
+        Extension::Refused(e) => e,
+    }
+}
+
+#[no_mangle]
+pub extern "C" fn metsroeb_icfl(
+    word: &[u8],
+    work: &mut [u16],
+    ends: &mut [u16],
+    count: &mut u16,
+) -> u8
+    ensures { λ r. ⌜ IcflNumbers (now (word .entry)) (now (work .entry)) (now (ends .entry)) r (now (count .exit)) (now (work .exit)) (now (ends .exit)) ⌝ }
+{
+    let answer = icfl::icfl(word, work, ends);
+    let numbers = numbers_of(answer);
+    *count = numbers.count;
+    numbers.refusal
+}
+
+#[no_mangle]
+pub extern "C" fn metsroeb_cfl_in(word: &[u8], ends: &mut [u16], count: &mut u16) -> u8
+    ensures { λ r. ⌜ CflInNumbers (now (word .entry)) (now (ends .entry)) r (now (count .exit)) (now (ends .exit)) ⌝ }
+{
+    let answer = cfl::cfl_in(word, ends);
+    let numbers = numbers_of(answer);
+    *count = numbers.count;
+    numbers.refusal
+}
+
+#[no_mangle]
+pub extern "C" fn metsroeb_lyndon_table(word: &[u8], lengths: &mut [u16], count: &mut u16) -> u8
+    ensures { λ r. ⌜ TableNumbers (now (word .entry)) (now (lengths .entry)) r (now (count .exit)) (now (lengths .exit)) ⌝ }
+{
+    let answer = table::lyndon_table(word, lengths);
+    let numbers = numbers_of(answer);
+    *count = numbers.count;
+    numbers.refusal
+}
+
+#[no_mangle]
+pub extern "C" fn metsroeb_compare(
+    word: &[u8],
+    first: usize,
+    end: usize,
+    start: usize,
+    other: usize,
+    sign: &mut i8,
+) -> u8
+    ensures { λ r. ⌜ SignNumber (now (word .entry)) first end start other r (now (sign .exit)) ⌝ }
+{
+    let answer = compare::compare_suffixes(word, first, end, start, other);
+    match answer {
+        Comparison::Sign(s) => {
+            *sign = s;
+            0
+        }
+        Comparison::Refused(e) => {
+            *sign = 0;
+            e
+        }
+    }
+}
+
+#[no_mangle]
+pub extern "C" fn metsroeb_factor(
+    word: &[u8],
+    ends: &[u16],
+    number: usize,
+    first: &mut u16,
+    end: &mut u16,
+) -> u8
+    ensures { λ r. ⌜ FactorNumbers (now (word .entry)) (now (ends .entry)) number r (now (first .exit)) (now (end .exit)) ⌝ }
+{
+    let refused = reading::factor_refusal(word, ends, number);
+    if refused != 0 {
+        *first = 0;
+        *end = 0;
+        return refused;
+    }
+    *first = reading::factor_from(ends, number);
+    *end = ends[number];
+    0
+}
+
+#[no_mangle]
+pub extern "C" fn metsroeb_summarize(word: &[u8], ends: &[u16]) -> Summary
+    ensures { λ r. ⌜ r ≡ summaryAs (summaryRefusal (now (word .entry)) (now (ends .entry))) (now (ends .entry)) ⌝ }
+{
+    reading::summarize(word, ends)
+}
