@@ -7,7 +7,8 @@ use lib.ListN.{length, drop}
 use Rattle.words.specs.Factorizations.{longestAntiLyndon, cflInEnds}
 use Rattle.words.specs.Scanned.{Scanned}
 use Rattle.checks.specs.Refusals.{recordRefusal, resultRefusal}
-use Rattle.checks.specs.Answers.{Filled}
+use Rattle.checks.specs.Answers.{checkedAs, Filled}
+use Rattle.checks.specs.declared.Checked.{Checked}
 use Rattle.checks.specs.declared.Counted.{Counted}
 use Rattle.cfl.specs.declared.Factor.{Factor}
 
@@ -39,3 +40,8 @@ storedAs false vs buffer = buffer
 pub record Walked (w buffer : List ℕ) (store : Bool) (r : ℕ) (buffer′ : List ℕ) : Type 0 where
   pub count : r ≡ length (cflInEnds w)
   pub result : buffer′ ≡ storedAs store (cflInEnds w) buffer
+
+-- line 4, with the buffer as it was
+pub record RoomChecked (w buffer : List ℕ) (r : Checked) (buffer′ : List ℕ) : Type 0 where
+  pub answer : r ≡ checkedAs (resultRefusal (length buffer) (length (cflInEnds w)))
+  pub kept : buffer′ ≡ buffer

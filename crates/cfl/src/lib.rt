@@ -2,9 +2,10 @@
 use checks::Checked;
 use checks::Counted;
 use scan::Scan;
-ghost use mathlib.Core.Path.{_≡_};
+ghost use Prim.Native.Nat.{_≤_};
+ghost use lib.ListN.{length};
 ghost use Rattle.scan.specs.State.{Resumes};
-ghost use Rattle.cfl.specs.CflIn.{CflInDone, FirstFactor, Room, Walked};
+ghost use Rattle.cfl.specs.CflIn.{CflInDone, FirstFactor, Room, RoomChecked, Walked};
 
 /// The first factor of a word, and the state in which the scan of what follows it goes on.
 pub struct Factor {
@@ -55,6 +56,18 @@ fn walk(word: &[u8], ends: &mut [u16], store: bool) -> usize
     count
 }
 
+/// Line 4. There are no more factors than letters, so they are counted only for a buffer that is shorter than the word.
+fn check_room(word: &[u8], ends: &mut [u16]) -> Checked
+    requires { ⌜ length (now word) ≤ 4096 ⌝ }
+    ensures { λ r. ⌜ RoomChecked (now (word .entry)) (now (ends .entry)) r (now (ends .exit)) ⌝ }
+{
+    if word.len() <= ends.len() {
+        return Checked::Passed;
+    }
+    let count = walk(word, ends, false);
+    checks::check_result(ends.len(), count)
+}
+
 /// The strict cut: writes the ends of the factors from entry 0 on, and answers their number. Refusals 1, 2, 4.
 pub fn cfl_in(word: &[u8], ends: &mut [u16]) -> Counted
     ensures { λ r. ⌜ CflInDone (now (word .entry)) (now (ends .entry)) r (now (ends .exit)) ⌝ }
@@ -63,11 +76,10 @@ pub fn cfl_in(word: &[u8], ends: &mut [u16]) -> Counted
     let Checked::Passed = checked else {
         return Counted::Refused(checked.number());
     };
-    let count = walk(word, ends, false);
-    let room = checks::check_result(ends.len(), count);
+    let room = check_room(word, ends);
     let Checked::Passed = room else {
         return Counted::Refused(room.number());
     };
-    walk(word, ends, true);
+    let count = walk(word, ends, true);
     Counted::Count(count)
 }

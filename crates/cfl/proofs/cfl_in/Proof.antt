@@ -1,21 +1,22 @@
--- Counting first leaves the buffer as it was, so that line 4 can refuse; then the same walk stores the ends.
+-- The checks, then the walk that stores the ends.
 use borrow.Author.Needs.{needs}
-use mathlib.Core.Path.{_≡_, sym}
-use mathlib.Core.Bool.{true≢false}
+use mathlib.Core.Path.{_≡_}
 use native.Mathlib.Omega.{arith}
-use Rattle.checks.proofs.RefusalLaws.{Accepted, passed, refused, number-is, record-accepted, result-accepted}
-use Rattle.checks.specs.Refusals.{recordRefusal}
+use Rattle.checks.proofs.RefusalLaws.{passed, refused, number-is, record-accepted, result-accepted}
+use Rattle.checks.specs.Refusals.{recordRefusal, resultRefusal}
+use Rattle.words.specs.Factorizations.{cflInEnds}
+use lib.ListN.{length}
 use Rattle.cfl.proofs.CflInCases.{record-refused, result-refused, ends-written}
 use borrow.Author.Needs.{needs}
 use Rattle.cfl.proofs.cfl_in.Statement.{statement}
 use Rattle.cfl.proofs.cfl_in.Tie as tie
 
--- past the check of the record
+-- past the check of the record, and past line 4
 passed-at : (c : tie.After-enum-told) → recordRefusal (c .before .before .before .before .before .args .word .now) ≡ 0
 passed-at c = passed _ _ (c .before .before .check-record .ensures) (c .before .match .keys1)
 
-accepted-at : (c : tie.After-enum-told) → Accepted (c .before .before .before .before .before .args .word .now)
-accepted-at c = record-accepted _ (passed-at c)
+roomy-at : (c : tie.After-enum-told3) → resultRefusal (length (c .before .before .before .before .before .before .before .before .before .before .before .args .ends .now)) (length (cflInEnds (c .before .before .before .before .before .before .before .before .before .before .before .args .word .now))) ≡ 0
+roomy-at c = passed _ _ (c .before .before .before .before .check-room .ensures .answer) (c .before .match2 .keys1)
 
 check-record-requires : tie.Need-check-record-requires
 check-record-requires c κs = search needs
@@ -34,11 +35,8 @@ returns c =
     let call = c .before .before .before .check-record in
     record-refused _ _ _ (number-is _ _ _ (call .ensures) (c .number .ensures)) (refused _ _ (call .ensures) (c .before .before .match .keys2))
 
-walk-requires : tie.Need-walk-requires
-walk-requires c κs = record { short = accepted-at (c .before) .short; entries = λ e. absurd (true≢false (sym e)) }
-
-check-result-requires : tie.Need-check-result-requires
-check-result-requires c κs = search needs
+check-room-requires : tie.Need-check-room-requires
+check-room-requires c κs = record-accepted _ (passed-at (c .before)) .short
 
 enum-told-3 : tie.Need-enum-told-3
 enum-told-3 c = search needs
@@ -54,22 +52,19 @@ same-length c = search needs
 
 returns-2 : tie.Need-returns-2
 returns-2 c =
-    let room = c .before .before .before .check-result in
-    let walked = c .before .before .before .before .before .before .walk .ensures in
-    result-refused _ _ _ (passed-at (c .before .before .before .before .before .before .before .before)) (walked .count) _ (walked .result) _ (number-is _ _ _ (room .ensures) (c .number2 .ensures)) (refused _ _ (room .ensures) (c .before .before .match2 .keys2))
+    let room = c .before .before .before .before .before .check-room .ensures in
+    result-refused _ _ (passed-at (c .before .before .before .before .before .before .before)) _ (room .kept) _ (number-is _ _ _ (room .answer) (c .number2 .ensures)) (refused _ _ (room .answer) (c .before .before .match2 .keys2))
 
-walk-requires-2 : tie.Need-walk-requires-2
-walk-requires-2 c κs =
-    let room = result-accepted _ _ (passed _ _ (c .before .before .before .check-result .ensures) (c .before .before .match2 .keys1)) in
-    record { short = accepted-at (c .before .before .before .before .before .before .before .before) .short; entries = λ e. omega (arith, room, c .before .before .before .before .before .before .walk .ensures .count) }
+walk-requires : tie.Need-walk-requires
+walk-requires c κs =
+    let room = c .before .before .before .before .before .check-room in
+    record { short = record-accepted _ (passed-at (c .before .before .before .before .before .before .before)) .short; entries = λ e. omega (arith, result-accepted _ _ (roomy-at (c .before)), room .kept) }
 
 same-length-2 : tie.Need-same-length-2
 same-length-2 c = search needs
 
 returns-3 : tie.Need-returns-3
-returns-3 c =
-    let walked = c .before .before .before .before .before .before .before .before .before .walk .ensures in
-    ends-written _ _ _ (passed-at (c .before .before .before .before .before .before .before .before .before .before .before)) (walked .count) _ _ (walked .result) (passed _ _ (c .before .before .before .before .before .before .check-result .ensures) (c .before .before .before .before .before .match2 .keys1)) (c .before .before .walk2 .ensures .result)
+returns-3 c = ends-written _ _ (passed-at (c .before .before .before .before .before .before .before .before .before .before)) _ _ _ (c .before .before .before .before .before .before .before .before .check-room .ensures .kept) (roomy-at (c .before .before .before .before)) (c .before .before .walk .ensures)
 
 pub cfl-in-spec : {M : Type 1} → statement M
 cfl-in-spec =
@@ -80,13 +75,12 @@ cfl-in-spec =
     enum-told-2
     number-requires
     returns
-    walk-requires
-    check-result-requires
+    check-room-requires
     enum-told-3
     enum-told-4
     number-requires-2
     same-length
     returns-2
-    walk-requires-2
+    walk-requires
     same-length-2
     returns-3)
