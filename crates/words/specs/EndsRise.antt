@@ -1,6 +1,6 @@
 -- The ends of a list of nonempty words rise strictly to the length of their product (ends-rise); so do the ends of both factorizations of a
 -- word (icfl-ends-rise, cfl-in-ends-rise). So there are at most as many ends as letters, and none lies past the last letter.
-use mathlib.Core.Path.{_≡_, ap, sym, _∙_}
+use mathlib.Core.Path.{_≡_}
 use mathlib.Core.List.{List, [], _∷_, flatten}
 use Prim.Native.Nat.{ℕ, zero, suc, _+_, _≤_, _<_}
 use native.Mathlib.Omega.{arith}
@@ -27,6 +27,10 @@ pub rises-inside : {n b : ℕ} {es : List ℕ} → RisesTo n b es → (i : ℕ) 
 rises-inside (there z) i = omega arith
 rises-inside (later h r) zero = omega (arith, rises-few r)
 rises-inside (later h r) (suc i) = rises-inside r i
+
+pub rises-some : {n b : ℕ} {es : List ℕ} → RisesTo n b es → b < n → 0 < length es
+rises-some (there z) l = absurd (omega arith)
+rises-some (later h r) l = omega arith
 
 -- ---- the factorizations
 

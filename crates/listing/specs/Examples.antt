@@ -1,0 +1,17 @@
+-- THEOREM examples. The definitions compute paper 01's listing of record H, byte for byte; further record I, an empty record and one too long by one.
+use mathlib.Core.Path.{_≡_, refl}
+use mathlib.Core.List.{[]}
+use lib.ListN.{replicate}
+use Rattle.listing.specs.Listing.{ascii, listingOf}
+
+pub record Examples : Type 0 where
+  pub h : listingOf (ascii "cbabacbac")
+      ≡ ascii "length=9\npieces=2\nends=5,9\nstrict=5,8,9\nlongest=5\nfrom=0\nbands=0,0,2,0,0,0,0,0,0,0,0,0,0\n"
+  pub i : listingOf (ascii "cbabacaacbabacbac")
+      ≡ ascii "length=17\npieces=2\nends=13,17\nstrict=8,13,16,17\nlongest=13\nfrom=0\nbands=0,0,1,1,0,0,0,0,0,0,0,0,0\n"
+  pub empty : listingOf [] ≡ ascii "refused=1\n"
+  pub long : listingOf (replicate 4097 97) ≡ ascii "refused=2\n"
+
+pub examples : Examples
+unfolding ascii listingOf
+examples = record { h = refl; i = refl; empty = refl; long = refl }
