@@ -1,0 +1,32 @@
+//! The records that are timed.
+use metsroeb_tests::words::{fibonacci_word, Random};
+
+/// A kind of record: its name, how many different records of it take turns, and what makes one from a length and its number.
+pub type Input = (&'static str, usize, fn(usize, usize) -> Vec<u8>);
+
+/// Random records take turns, so that no branch predictor knows them by heart.
+pub const INPUTS: [Input; 9] = [
+    ("random, 2 letters", 16, |n, k| random(n, k, 2)),
+    ("random, 256 letters", 16, |n, k| random(n, k, 256)),
+    ("a^n", 1, |n, _| vec![b'a'; n]),
+    ("(ba)^(n/2)", 1, |n, _| b"ba".repeat(n / 2)),
+    ("Fibonacci", 1, |n, _| fibonacci_word(b'b', b'a', n)),
+    ("c^k a c^k b", 1, |n, _| {
+        let mut word = vec![b'c'; n];
+        word[n / 2 - 1] = b'a';
+        word[n - 1] = b'b';
+        word
+    }),
+    ("falling ramp", 1, |n, _| (0..n).map(|i| (255 - i * 256 / n) as u8).collect()),
+    ("rising plateaus", 1, |n, _| (0..n).map(|i| (i * 64 / n) as u8).collect()),
+    ("a^(n-1) b", 1, |n, _| {
+        let mut word = vec![b'a'; n];
+        word[n - 1] = b'b';
+        word
+    }),
+];
+
+fn random(length: usize, number: usize, letters: usize) -> Vec<u8> {
+    let mut random = Random::new(0x5eed_0100 + number as u64);
+    (0..length).map(|_| random.below(letters) as u8).collect()
+}

@@ -1,0 +1,52 @@
+-- Safe and ending: the loop's measure is what is left, and a lent buffer keeps its length.
+use borrow.Author.Needs.{needs}
+use mathlib.Core.Path.{_≡_}
+use Prim.Native.Nat.{_-_}
+use lib.ListN.{length}
+use Rattle.cases.proofs.inputs.long_records.Statement.{statement}
+use Rattle.cases.proofs.inputs.long_records.Tie as tie
+
+abbrev Inv-loop : tie.InvT-loop
+Inv-loop state₀ counts₀ i₀ state counts i = length counts ≡ length counts₀
+
+abbrev μ-loop : tie.MeasureT-loop
+μ-loop state₀ counts₀ i₀ state counts i = 24 - i
+
+loop-holds : tie.Need-loop-holds Inv-loop μ-loop
+loop-holds c = search needs
+
+add-long-record : tie.Need-add-long-record Inv-loop μ-loop
+add-long-record c = search needs
+
+long-record-requires : tie.Need-long-record-requires Inv-loop μ-loop
+long-record-requires c κs = search needs
+
+add-i : tie.Need-add-i Inv-loop μ-loop
+add-i c = search needs
+
+loop-less : tie.Need-loop-less Inv-loop μ-loop
+loop-less c = search needs
+
+loop-again : tie.Need-loop-again Inv-loop μ-loop
+loop-again c = search needs
+
+same-length : tie.Need-same-length Inv-loop μ-loop
+same-length c = search needs
+
+returns : tie.Need-returns Inv-loop μ-loop
+returns c = search needs
+
+pub long-records-spec : {M : Type 1} → statement M
+long-records-spec =
+    tie.close
+    (tie.spec
+    Inv-loop
+    μ-loop
+    loop-holds
+    add-long-record
+    long-record-requires
+    add-i
+    loop-less
+    loop-again
+    same-length
+    returns)

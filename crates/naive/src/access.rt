@@ -1,0 +1,55 @@
+//! Letters and entries at a place, sums and differences, each defined for all arguments.
+
+fn wide(x: u16) -> usize {
+    x as usize
+}
+
+/// The letter at a place, 0 past the end.
+pub fn letter(word: &[u8], at: usize) -> u8 {
+    if at < word.len() { word[at] } else { 0 }
+}
+
+/// The entry at a place, 0 past the end.
+pub fn entry(list: &[u16], at: usize) -> usize {
+    if at < list.len() { wide(list[at]) } else { 0 }
+}
+
+/// Stores a letter, by its remainder modulo 256; past the end nothing.
+pub fn set_letter(word: &mut [u8], at: usize, value: usize) {
+    if at < word.len() {
+        word[at] = (value % 256) as u8;
+    }
+}
+
+/// Stores an entry, by its remainder modulo 65,536; past the end nothing.
+pub fn store(list: &mut [u16], at: usize, value: usize) {
+    if at < list.len() {
+        list[at] = (value % 65536) as u16;
+    }
+}
+
+/// The word from a place on, empty past the end.
+pub fn tail(word: &[u8], from: usize) -> &[u8] {
+    if word.len() < from {
+        return &word[0..0];
+    }
+    &word[from..]
+}
+
+/// The first n entries, all where there are fewer.
+pub fn front(list: &[u16], n: usize) -> &[u16] {
+    if list.len() < n {
+        return list;
+    }
+    &list[0..n]
+}
+
+/// The sum; no sum of places comes near the largest number.
+pub fn plus(a: usize, b: usize) -> usize {
+    std::num::wrapping_add_usize(a, b)
+}
+
+/// The difference, 0 where b is greater.
+pub fn minus(a: usize, b: usize) -> usize {
+    if b <= a { a - b } else { 0 }
+}

@@ -1,0 +1,68 @@
+//! The parts that a list of ends marks, each number of their summary by a pass of its own.
+use super::access::entry;
+use super::access::minus;
+use super::access::plus;
+
+/// Where part k begins.
+pub fn part_start(ends: &[u16], k: usize) -> usize {
+    if k == 0 { 0 } else { entry(ends, k - 1) }
+}
+
+/// Where part k ends.
+pub fn part_end(ends: &[u16], k: usize) -> usize {
+    entry(ends, k)
+}
+
+fn part_length(ends: &[u16], k: usize) -> usize {
+    minus(part_end(ends, k), part_start(ends, k))
+}
+
+/// The greatest length of a part.
+pub fn longest(ends: &[u16]) -> usize {
+    let mut most: usize = 0;
+    let mut k: usize = 0;
+    while k < ends.len() {
+        let size = part_length(ends, k);
+        if most < size {
+            most = size;
+        }
+        k += 1;
+    }
+    most
+}
+
+/// Where the earliest part of that size begins.
+pub fn earliest(ends: &[u16], size: usize) -> usize {
+    let mut k: usize = 0;
+    while k < ends.len() {
+        if part_length(ends, k) == size {
+            return part_start(ends, k);
+        }
+        k += 1;
+    }
+    0
+}
+
+// How often a length can be halved before it is 0.
+fn band(length: usize) -> usize {
+    let mut rest = length;
+    let mut halvings: usize = 0;
+    while 0 < rest {
+        rest = rest / 2;
+        halvings = plus(halvings, 1);
+    }
+    halvings
+}
+
+/// How many parts have a length of that many binary digits.
+pub fn in_band(ends: &[u16], digits: usize) -> usize {
+    let mut count: usize = 0;
+    let mut k: usize = 0;
+    while k < ends.len() {
+        if band(part_length(ends, k)) == digits {
+            count = plus(count, 1);
+        }
+        k += 1;
+    }
+    count
+}

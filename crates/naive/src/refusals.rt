@@ -1,0 +1,62 @@
+//! Paper 01's table of refusals. Each function gives the number of the first line that is met, 0 for none.
+use super::access::entry;
+use super::access::plus;
+
+// A line of the table: its number where it is met, else what the lines below it say.
+fn line(met: bool, number: u8, below: u8) -> u8 {
+    if met { number } else { below }
+}
+
+// Lines 1 and 2, for a record of n letters.
+fn record_lines(n: usize, below: u8) -> u8 {
+    line(n == 0, 1, line(4096 < n, 2, below))
+}
+
+/// The test, lent `work` entries.
+pub fn test_refusal(n: usize, work: usize) -> u8 {
+    record_lines(n, line(work < n, 3, 0))
+}
+
+/// The piece cut into `count` pieces, lent `work` and `ends` entries.
+pub fn cut_refusal(n: usize, work: usize, ends: usize, count: usize) -> u8 {
+    record_lines(n, line(work / 3 < n, 3, line(ends < count, 4, 0)))
+}
+
+/// A call that fills `count` entries and has no work buffer: the strict cut, the start table.
+pub fn filled_refusal(n: usize, entries: usize, count: usize) -> u8 {
+    record_lines(n, line(entries < count, 4, 0))
+}
+
+/// The comparison.
+pub fn range_refusal(n: usize, first: usize, end: usize, start: usize, other: usize) -> u8 {
+    let outside = start < first || end <= start || other < first || end <= other;
+    record_lines(n, line(end <= first || n < end, 5, line(outside, 6, 0)))
+}
+
+// Whether line 7 is met: the list is empty, its first end is 0, an end is not above the one before it, or the last is not n.
+fn is_no_list(ends: &[u16], n: usize) -> bool {
+    let mut i: usize = 1;
+    while i < ends.len() {
+        if entry(ends, i) <= entry(ends, i - 1) {
+            return true;
+        }
+        i += 1;
+    }
+    if ends.len() == 0 {
+        return true;
+    }
+    entry(ends, 0) == 0 || entry(ends, ends.len() - 1) != n
+}
+
+/// The summary.
+pub fn summary_refusal(n: usize, ends: &[u16]) -> u8 {
+    record_lines(n, line(is_no_list(ends, n), 7, 0))
+}
+
+/// The reader.
+pub fn part_refusal(n: usize, ends: &[u16], number: usize) -> u8 {
+    record_lines(
+        n,
+        line(is_no_list(ends, n), 7, line(ends.len() <= number, 8, 0)),
+    )
+}

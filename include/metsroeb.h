@@ -1,0 +1,92 @@
+/* Metsroeb: the canonical inverse Lyndon factorization (ICFL) of a record, and what belongs to it.
+ *
+ * A record is a word of 1 to 4,096 bytes; all 256 values are ordinary letters. Places count from 0; an end is the
+ * place just past the last byte. Every function returns (metsroeb_summarize: holds) a refusal number, 0 for a result.
+ *
+ * The caller ensures, for every function:
+ *   - every pointer is valid and not null, also where its length is 0, and aligned for its type;
+ *   - every length is true: so many bytes or entries can be read, and written where the pointer is not const;
+ *   - what can be written (a buffer, a number) overlaps no other argument.
+ * Nothing else is asked: lengths, places, lists and piece numbers of every value are answered, by a refusal if need be.
+ * No function keeps a pointer, allocates, recurses, or has a state of its own; calls may run at the same time on
+ * different buffers.
+ *
+ * Refusals. A line is tried only when the lines above it have passed, and only by the functions it names.
+ *
+ *   1  all         record_len is 0
+ *   2  all         record_len is above 4,096
+ *   3  test        work_len is below record_len
+ *      icfl        work_len is below 3 * record_len
+ *   4  icfl, cfl_in, lyndon_table   the result buffer has fewer entries than the answer
+ *   5  compare     first is not below end, or end is above record_len
+ *   6  compare     start or other is below first, or not below end
+ *   7  factor, summarize   ends is empty, begins with 0, does not rise strictly, or its last end is not record_len
+ *   8  factor      number is not below ends_len
+ *
+ * Beside a refusal the numbers written through pointers are 0, and every buffer is as it was; only icfl refused by 4
+ * has cleared its work buffer as after a result. Entries past those that a function is said to write stay as they were.
+ */
+#ifndef METSROEB_H
+#define METSROEB_H
+
+#include <stddef.h>
+#include <stdint.h>
+
+#ifdef __cplusplus
+extern "C" {
+#endif
+
+#define METSROEB_MOST 4096 /* the most bytes of a record */
+
+/* What the factors that a list of ends marks come to. Beside a refusal all else is 0. */
+typedef struct {
+    uint8_t refusal;
+    uint16_t count;     /* number of factors */
+    uint16_t longest;   /* greatest length of a factor */
+    uint16_t from;      /* first place of the earliest factor of that length */
+    uint16_t bands[13]; /* bands[k]: number of factors whose length has k + 1 binary digits */
+} metsroeb_summary;
+
+/* The test. An inverse Lyndon record (nonempty, greater than each nonempty proper suffix): 0 in all three numbers.
+ * Otherwise *failing is the length L of the shortest prefix that is not inverse Lyndon, *border the length of the
+ * shortest r with which that prefix is r a u r b, a < b, and *prefix = L - *border - 1, the length of p.
+ * work: at least record_len entries; after a result the first record_len are 0. Refusals 1, 2, 3. */
+uint8_t metsroeb_test(const uint8_t *record, size_t record_len, uint16_t *work, size_t work_len,
+                      uint16_t *failing, uint16_t *prefix, uint16_t *border);
+
+/* The piece cut, ICFL: writes the ends of the factors to ends, from entry 0, and their number to *count.
+ * record_len entries of ends are always enough.
+ * work: at least 3 * record_len entries; after a result and after refusal 4 the first 3 * record_len are 0.
+ * Refusals 1, 2, 3, 4. */
+uint8_t metsroeb_icfl(const uint8_t *record, size_t record_len, uint16_t *work, size_t work_len,
+                      uint16_t *ends, size_t ends_len, uint16_t *count);
+
+/* The strict cut, the Lyndon factorization in the inverse order (its factors are anti-Lyndon words): writes the ends
+ * of the factors to ends, from entry 0, and their number to *count. record_len entries are always enough.
+ * Refusals 1, 2, 4. */
+uint8_t metsroeb_cfl_in(const uint8_t *record, size_t record_len, uint16_t *ends, size_t ends_len, uint16_t *count);
+
+/* The start table: writes to lengths, for each place of the record from entry 0, the length of the longest anti-Lyndon
+ * word that starts there, and record_len to *count. Refusals 1, 2, 4. */
+uint8_t metsroeb_lyndon_table(const uint8_t *record, size_t record_len, uint16_t *lengths, size_t lengths_len,
+                              uint16_t *count);
+
+/* The comparison, in the inverse order, of the words from start to end and from other to end: *sign is -1 if the one
+ * at start comes first, 0 if the starts are equal, 1 otherwise. In this order a proper prefix comes first, and
+ * at a first difference the larger byte. The range is first to end, of any part of the record. Refusals 1, 2, 5, 6. */
+uint8_t metsroeb_compare(const uint8_t *record, size_t record_len, size_t first, size_t end, size_t start, size_t other,
+                         int8_t *sign);
+
+/* The reader: factor number, from 0, of any list of ends that line 7 accepts. Its bytes are
+ * record[*first] to record[*end - 1]. Refusals 1, 2, 7, 8. */
+uint8_t metsroeb_factor(const uint8_t *record, size_t record_len, const uint16_t *ends, size_t ends_len, size_t number,
+                        uint16_t *first, uint16_t *end);
+
+/* The summary of the factors that any list of ends marks that line 7 accepts. Refusals 1, 2, 7, in the field. */
+metsroeb_summary metsroeb_summarize(const uint8_t *record, size_t record_len, const uint16_t *ends, size_t ends_len);
+
+#ifdef __cplusplus
+}
+#endif
+
+#endif

@@ -1,0 +1,82 @@
+/* Calls each function once on record H and compares the answers with paper 01's. */
+#include "metsroeb.h"
+
+#include <stdio.h>
+#include <string.h>
+
+static int differed;
+
+static void expect(const char *what, long got, long want)
+{
+    if (got != want) {
+        printf("%s: %ld, not %ld\n", what, got, want);
+        differed = 1;
+    }
+}
+
+static void expect_entries(const char *what, const uint16_t *got, const uint16_t *want, size_t count)
+{
+    size_t i;
+    for (i = 0; i < count; i++) {
+        if (got[i] != want[i]) {
+            printf("%s[%u]: %u, not %u\n", what, (unsigned)i, (unsigned)got[i], (unsigned)want[i]);
+            differed = 1;
+        }
+    }
+}
+
+int main(void)
+{
+    static const uint8_t record[] = {'c', 'b', 'a', 'b', 'a', 'c', 'b', 'a', 'c'};
+    static const uint16_t zeros[27];
+    static const uint16_t pieces[] = {5, 9};
+    static const uint16_t strict[] = {5, 8, 9};
+    static const uint16_t table[] = {5, 2, 1, 2, 1, 3, 2, 1, 1};
+    static const uint16_t bands[13] = {0, 0, 2};
+    const size_t n = sizeof record;
+    uint16_t work[27], ends[9], lengths[9];
+    uint16_t failing = 77, prefix = 77, border = 77, count = 77, first = 77, end = 77;
+    int8_t sign = 77;
+    metsroeb_summary summary;
+
+    memset(work, 0x5a, sizeof work);
+    expect("test", metsroeb_test(record, n, work, 9, &failing, &prefix, &border), 0);
+    expect("test: failing", failing, 9);
+    expect("test: prefix", prefix, 5);
+    expect("test: border", border, 3);
+    expect_entries("test: work", work, zeros, 9);
+    expect("test: work[9]", work[9], 0x5a5a);
+
+    expect("cfl_in", metsroeb_cfl_in(record, n, ends, 9, &count), 0);
+    expect("cfl_in: count", count, 3);
+    expect_entries("cfl_in: ends", ends, strict, 3);
+
+    memset(work, 0x5a, sizeof work);
+    expect("icfl", metsroeb_icfl(record, n, work, 27, ends, 2, &count), 0);
+    expect("icfl: count", count, 2);
+    expect_entries("icfl: ends", ends, pieces, 2);
+    expect_entries("icfl: work", work, zeros, 27);
+
+    expect("lyndon_table", metsroeb_lyndon_table(record, n, lengths, 9, &count), 0);
+    expect("lyndon_table: count", count, 9);
+    expect_entries("lyndon_table: lengths", lengths, table, 9);
+
+    expect("compare", metsroeb_compare(record, n, 0, 9, 0, 5, &sign), 0);
+    expect("compare: sign", sign, 1);
+
+    expect("factor", metsroeb_factor(record, n, pieces, 2, 1, &first, &end), 0);
+    expect("factor: first", first, 5);
+    expect("factor: end", end, 9);
+
+    summary = metsroeb_summarize(record, n, pieces, 2);
+    expect("summarize", summary.refusal, 0);
+    expect("summarize: count", summary.count, 2);
+    expect("summarize: longest", summary.longest, 5);
+    expect("summarize: from", summary.from, 0);
+    expect_entries("summarize: bands", summary.bands, bands, 13);
+
+    if (!differed) {
+        puts("ok");
+    }
+    return differed;
+}

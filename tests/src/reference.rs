@@ -1,0 +1,119 @@
+//! The answers, by paper 01's definitions and nothing else: for short words.
+use std::cmp::Ordering;
+
+/// The test's answer for a word that is not inverse Lyndon: L, |p| and |r|.
+#[derive(Clone, Copy, Debug, PartialEq, Eq)]
+pub struct Extension {
+    pub failing: usize,
+    pub prefix: usize,
+    pub border: usize,
+}
+
+/// The inverse order: a proper prefix comes first, and at a first difference the larger byte.
+pub fn inverse_order(x: &[u8], y: &[u8]) -> Ordering {
+    for i in 0.. {
+        match (x.get(i), y.get(i)) {
+            (None, None) => return Ordering::Equal,
+            (None, Some(_)) => return Ordering::Less,
+            (Some(_), None) => return Ordering::Greater,
+            (Some(a), Some(b)) if a != b => return b.cmp(a),
+            _ => {}
+        }
+    }
+    unreachable!()
+}
+
+/// Nonempty, and greater than each nonempty proper suffix. (The order of slices is the natural order.)
+pub fn is_inverse_lyndon(word: &[u8]) -> bool {
+    !word.is_empty() && (1..word.len()).all(|i| word > &word[i..])
+}
+
+/// Nonempty, and before each nonempty proper suffix in the inverse order.
+pub fn is_anti_lyndon(word: &[u8]) -> bool {
+    !word.is_empty() && (1..word.len()).all(|i| inverse_order(word, &word[i..]) == Ordering::Less)
+}
+
+/// L is the shortest nonempty prefix that is not inverse Lyndon; it is r a u r b with a < b and the shortest r.
+pub fn test(word: &[u8]) -> Option<Extension> {
+    let failing = (1..=word.len()).find(|&l| !is_inverse_lyndon(&word[..l]))?;
+    let last = failing - 1;
+    let border = (0..failing)
+        .find(|&r| 2 * r + 2 <= failing && word[..r] == word[last - r..last] && word[r] < word[last])
+        .expect("a failing prefix is r a u r b");
+    Some(Extension { failing, prefix: last - border, border })
+}
+
+/// The piece cut, by its recursion: the lengths of the pieces.
+fn pieces(word: &[u8]) -> Vec<usize> {
+    let Some(found) = test(word) else { return vec![word.len()] };
+    let mut rest = pieces(&word[found.prefix..]);
+    if rest[0] <= found.border {
+        rest[0] += found.prefix;
+    } else {
+        rest.insert(0, found.prefix);
+    }
+    rest
+}
+
+/// The ends of the piece cut.
+pub fn icfl(word: &[u8]) -> Vec<u16> {
+    let mut end = 0;
+    let ends = pieces(word).into_iter().map(|length| {
+        end += length;
+        end as u16
+    });
+    ends.collect()
+}
+
+/// Whether the list of ends divides the word into anti-Lyndon words, each equal to the next or after it in the inverse order.
+pub fn is_cfl_in(word: &[u8], ends: &[u16]) -> bool {
+    let starts = [0].iter().chain(ends);
+    let parts: Vec<&[u8]> = starts.zip(ends).map(|(&from, &to)| &word[from as usize..to as usize]).collect();
+    ends.last().copied().unwrap_or(0) as usize == word.len()
+        && parts.iter().all(|part| is_anti_lyndon(part))
+        && parts.windows(2).all(|pair| inverse_order(pair[0], pair[1]) != Ordering::Less)
+}
+
+/// The ends of the strict cut. Its first factor is the longest anti-Lyndon prefix; `is_cfl_in` says whether that is right.
+pub fn cfl_in(word: &[u8]) -> Vec<u16> {
+    let mut ends = Vec::new();
+    let mut from = 0;
+    while from < word.len() {
+        from += longest_anti_lyndon(&word[from..]);
+        ends.push(from as u16);
+    }
+    ends
+}
+
+fn longest_anti_lyndon(word: &[u8]) -> usize {
+    (1..=word.len()).rev().find(|&l| is_anti_lyndon(&word[..l])).expect("a letter is one")
+}
+
+/// The start table.
+pub fn lyndon_table(word: &[u8]) -> Vec<u16> {
+    (0..word.len()).map(|i| longest_anti_lyndon(&word[i..]) as u16).collect()
+}
+
+/// The comparison of the starts over the range that ends at `end`.
+pub fn sign(word: &[u8], end: usize, start: usize, other: usize) -> i8 {
+    match inverse_order(&word[start..end], &word[other..end]) {
+        Ordering::Less => -1,
+        Ordering::Equal => 0,
+        Ordering::Greater => 1,
+    }
+}
+
+/// First place and end of each factor that a list of ends marks.
+pub fn factors(ends: &[u16]) -> Vec<(u16, u16)> {
+    (0..ends.len()).map(|k| (if k == 0 { 0 } else { ends[k - 1] }, ends[k])).collect()
+}
+
+/// The summary's numbers: count, longest, from, bands.
+pub fn summary(ends: &[u16]) -> (u16, u16, u16, [u16; 13]) {
+    let factors = factors(ends);
+    let longest = factors.iter().map(|(from, end)| end - from).max().unwrap_or(0);
+    let from = factors.iter().find(|(from, end)| end - from == longest).map_or(0, |f| f.0);
+    let digits = |(from, end): &(u16, u16)| format!("{:b}", end - from).len();
+    let bands = std::array::from_fn(|band| factors.iter().filter(|f| digits(f) == band + 1).count() as u16);
+    (factors.len() as u16, longest, from, bands)
+}

@@ -1,0 +1,170 @@
+//! Words to try the calls on.
+
+/// A xorshift generator.
+#[derive(Clone)]
+pub struct Random(u64);
+
+impl Random {
+    /// The seed is not 0.
+    pub fn new(seed: u64) -> Random {
+        Random(seed)
+    }
+
+    pub fn draw(&mut self) -> u64 {
+        self.0 ^= self.0 >> 12;
+        self.0 ^= self.0 << 25;
+        self.0 ^= self.0 >> 27;
+        self.0.wrapping_mul(0x2545_f491_4f6c_dd1d) >> 16
+    }
+
+    /// A number below `n`.
+    pub fn below(&mut self, n: usize) -> usize {
+        (self.draw() % n as u64) as usize
+    }
+
+    fn letter(&mut self, letters: usize) -> u8 {
+        b'a' + self.below(letters) as u8
+    }
+}
+
+/// All words of `length` letters over the first `letters` of the alphabet.
+pub fn all_words(letters: usize, length: usize) -> impl Iterator<Item = Vec<u8>> {
+    (0..letters.pow(length as u32)).map(move |mut number| {
+        let digits = (0..length).map(|_| {
+            let digit = number % letters;
+            number /= letters;
+            b'a' + digit as u8
+        });
+        digits.collect()
+    })
+}
+
+/// A kind of pseudo-random words: its name, and what makes a word of at most the given length.
+pub type Kind = (&'static str, fn(&mut Random, usize) -> Vec<u8>);
+
+pub const KINDS: [Kind; 9] = [
+    ("uniform over few letters", uniform_few),
+    ("uniform over all bytes", uniform_all),
+    ("periodic", periodic),
+    ("Fibonacci", fibonacci),
+    ("ramps", ramps),
+    ("plateaus", plateaus),
+    ("nearly equal", nearly_equal),
+    ("joined breaks", joined_breaks),
+    ("two powers", two_powers),
+];
+
+fn uniform_few(random: &mut Random, length: usize) -> Vec<u8> {
+    let letters = 2 + random.below(3);
+    (0..length).map(|_| random.letter(letters)).collect()
+}
+
+fn uniform_all(random: &mut Random, length: usize) -> Vec<u8> {
+    (0..length).map(|_| random.draw() as u8).collect()
+}
+
+/// A power of a short root, cut anywhere, at times with one byte changed.
+fn periodic(random: &mut Random, length: usize) -> Vec<u8> {
+    let root_length = 1 + random.below(length.min(12));
+    let root = uniform_few(random, root_length);
+    let mut word: Vec<u8> = root.iter().copied().cycle().skip(random.below(root_length)).take(length).collect();
+    if random.below(2) == 0 {
+        let place = random.below(length);
+        word[place] = random.letter(4);
+    }
+    word
+}
+
+/// A part of the Fibonacci word over two bytes.
+pub fn fibonacci_word(x: u8, y: u8, length: usize) -> Vec<u8> {
+    let (mut short, mut word) = (vec![x], vec![x, y]);
+    while word.len() < length {
+        let next = [&word[..], &short[..]].concat();
+        (short, word) = (word, next);
+    }
+    word.truncate(length);
+    word
+}
+
+fn fibonacci(random: &mut Random, length: usize) -> Vec<u8> {
+    let skipped = random.below(length.min(40));
+    let (x, y) = if random.below(2) == 0 { (b'a', b'b') } else { (b'b', b'a') };
+    fibonacci_word(x, y, length + skipped)[skipped..].to_vec()
+}
+
+/// Bytes that rise or fall by a fixed step, and wrap.
+fn ramps(random: &mut Random, length: usize) -> Vec<u8> {
+    let (first, slow) = (random.draw() as u8, 1 + random.below(4));
+    let step = [1, 2, 255, 254, 16, 240][random.below(6)];
+    (0..length).map(|i| first.wrapping_add(((i / slow) as u8).wrapping_mul(step))).collect()
+}
+
+/// Stretches of equal bytes: rising, falling, or in any order.
+fn plateaus(random: &mut Random, length: usize) -> Vec<u8> {
+    let order = random.below(3);
+    let mut level = random.letter(8);
+    let mut word = Vec::new();
+    while word.len() < length {
+        let end = length.min(word.len() + 1 + random.below(1 + length / 4));
+        word.resize(end, level);
+        level = match order {
+            0 => level.saturating_add(1),
+            1 => level.saturating_sub(1),
+            _ => random.letter(3),
+        };
+    }
+    word
+}
+
+/// Equal bytes but for one to three places.
+fn nearly_equal(random: &mut Random, length: usize) -> Vec<u8> {
+    let mut word = vec![b'b'; length];
+    for _ in 0..1 + random.below(3) {
+        let place = if random.below(3) == 0 { length - 1 } else { random.below(length) };
+        word[place] = random.letter(3);
+    }
+    word
+}
+
+/// Like paper 01's record I: h is put behind one of its own prefixes r and smaller letters, r a u h, again and again. Where r is at least
+/// as long as the first factor of h and still inverse Lyndon, the break is joined.
+fn joined_breaks(random: &mut Random, length: usize) -> Vec<u8> {
+    // r a u r b, with r from the largest letter on.
+    let mut r = vec![b'p'];
+    r.extend((0..random.below(3)).map(|_| b'm' + random.below(3) as u8));
+    let u = random.below(2);
+    let mut word = [&r[..], &[b'k'; 2][..1 + u], &r[..], &[b'l' + random.below(5) as u8]].concat();
+    let (mut first, mut failing) = (r.len() + 1 + u, word.len());
+    loop {
+        let border = if random.below(4) > 0 { first + random.below(failing - first) } else { random.below(failing) };
+        let u = random.below(3);
+        let prefix = border + 1 + u;
+        if prefix + word.len() > length {
+            break;
+        }
+        let smaller = word[border].saturating_sub(1 + random.below(2) as u8);
+        let mut next = word[..border].to_vec();
+        next.resize(prefix, smaller);
+        next.append(&mut word);
+        word = next;
+        first = if first <= border { prefix + first } else { prefix };
+        failing = prefix + border + 1;
+    }
+    word.truncate(length);
+    word
+}
+
+/// x^i y x^j z over small roots: the start table's worst case, and its like.
+fn two_powers(random: &mut Random, length: usize) -> Vec<u8> {
+    let root_length = 1 + random.below(3);
+    let root = uniform_few(random, root_length);
+    let half = (length / 2).saturating_sub(random.below(3));
+    let mut word: Vec<u8> = root.iter().copied().cycle().take(half).collect();
+    word.push(random.letter(3));
+    word.extend(root.iter().copied().cycle().take((length - 1).saturating_sub(half)));
+    word.truncate(length);
+    if let Some(last) = word.last_mut() {
+        *last = random.letter(4);
+    }
+    word
+}
