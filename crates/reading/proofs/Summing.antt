@@ -6,15 +6,31 @@ use Prim.Native.Nat.{ℕ, zero, suc, _+_, _-_, _≤_, _<_, max}
 use native.Mathlib.Decide.{ℕ-discrete, decLt}
 use native.Mathlib.Omega.{arith}
 use native.Mathlib.Numerals.{add-one}
-use lib.ListN.{length, drop, getD, replicate, length-set, drop-of-length-le}
+use lib.ListN.{length, drop, getD, set, replicate, length-set, drop-of-length-le}
 use lib.Seq.{drop-cons, getD-set-same, getD-set-other, ext-getD}
 use Rattle.checks.proofs.EndsLaws.{Rises, rises-head, rises-tail, rises-most}
 use Rattle.reading.specs.Summary.{lengthsFrom, greatest, startOf, bitLength, countOf, bandsOf, emptySummary, summaryAs}
-use Rattle.reading.specs.Steps.{Ends, Room, WithFactor}
+use Rattle.reading.specs.Steps.{Ends}
 use Rattle.reading.specs.declared.summary.Summary.{Summary}
 use Rattle.reading.proofs.BitLengths.{bit-length-most, bit-length-some}
 use Rattle.reading.proofs.EndsRead.{rises-length}
 use Rattle.reading.proofs.SummaryLaws.{bandsFrom, start-here, start-later, count-here, count-other, count-most, bands-length, bands-at, same-summary}
+
+-- one more part, of length n, can be counted
+pub record Room (s : Summary) (n : ℕ) : Type 0 where
+  pub nonempty : 0 < n
+  pub short : n ≤ 4096
+  pub parts : s .count ≤ 4096
+  pub inBand : getD (s .bands) (bitLength n - 1) 0 ≤ 4096
+
+-- r is s with one more part, of length n from start on
+pub record WithFactor (s : Summary) (start n : ℕ) (r : Summary) : Type 0 where
+  pub refusal-is : r .refusal ≡ s .refusal
+  pub count-is : r .count ≡ s .count + 1
+  pub longest-is : r .longest ≡ max (s .longest) n
+  pub longer : s .longest < n → r .from ≡ start
+  pub not-longer : n ≤ s .longest → r .from ≡ s .from
+  pub bands-is : r .bands ≡ set (s .bands) (bitLength n - 1) (getD (s .bands) (bitLength n - 1) 0 + 1)
 
 -- the whole list's greatest length
 abbrev longestOf : List ℕ → ℕ

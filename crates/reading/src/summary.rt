@@ -2,7 +2,7 @@
 use checks::Checked;
 ghost use mathlib.Core.Path.{_≡_};
 ghost use Rattle.reading.specs.Summary.{bitLength, emptySummary, summaryRefusal, summaryAs};
-ghost use Rattle.reading.specs.Steps.{Room, WithFactor, Ends};
+ghost use Rattle.reading.specs.Steps.{Ends};
 
 /// What the parts come to. Beside a refusal all fields but its number are 0.
 #[repr(C)]
@@ -40,51 +40,38 @@ impl Summary {
             bands: [0u16; 13],
         }
     }
-
-    // With one more part, of `length` letters from `start` on; only a longer part takes the place of the longest.
-    fn with_factor(self, start: u16, length: u16) -> Summary
-        requires { ⌜ Room self length ⌝ }
-        ensures { λ r. ⌜ WithFactor self start length r ⌝ }
-    {
-        let band = bit_length(length) - 1;
-        let mut bands = self.bands;
-        bands[band] = bands[band] + 1;
-        let refusal = self.refusal;
-        let count = self.count + 1;
-        if self.longest < length {
-            return Summary {
-                refusal,
-                count,
-                longest: length,
-                from: start,
-                bands,
-            };
-        }
-        Summary {
-            refusal,
-            count,
-            longest: self.longest,
-            from: self.from,
-            bands,
-        }
-    }
 }
 
-// The summary of the parts that a list of ends marks.
+// The summary of the parts that a list of ends marks; only a longer part takes the place of the longest. The counts are an array of the loop and not the
+// struct's, which would be copied for each part.
 fn sum_up(ends: &[u16]) -> Summary
     requires { ⌜ Ends (now ends) ⌝ }
     ensures { λ r. ⌜ r ≡ summaryAs 0 (now (ends .entry)) ⌝ }
 {
-    let mut summary = Summary::empty(0);
+    let mut bands = [0u16; 13];
+    let mut longest: u16 = 0;
+    let mut from: u16 = 0;
     let mut last: u16 = 0;
     let mut i: usize = 0;
     while i < ends.len() {
         let end = ends[i];
-        summary = summary.with_factor(last, end - last);
+        let size = end - last;
+        let band = bit_length(size) - 1;
+        bands[band] = bands[band] + 1;
+        if longest < size {
+            longest = size;
+            from = last;
+        }
         last = end;
         i += 1;
     }
-    summary
+    Summary {
+        refusal: 0,
+        count: i as u16,
+        longest,
+        from,
+        bands,
+    }
 }
 
 /// The summary of a record and a list of ends, or refusal 1, 2 or 7.

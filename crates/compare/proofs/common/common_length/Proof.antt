@@ -2,31 +2,33 @@
 use borrow.Author.Needs.{needs}
 use Prim.Native.Nat.{_-_}
 use native.Mathlib.Omega.{arith}
-use lib.ListN.{length}
 use Rattle.compare.proofs.CommonLength.{Matched, matched-none, matched-more, agree-unique}
 use Rattle.compare.proofs.common.common_length.Statement.{statement}
 use Rattle.compare.proofs.common.common_length.Tie as tie
+use Rattle.compare.proofs.common.common_length.Reads as reads
+use Rattle.compare.proofs.common.common_length.Lts as lts
+use Rattle.compare.proofs.common.shorter.Reads as shorter-reads
 
 abbrev Inv-loop : tie.InvT-loop
-Inv-loop x y l₀ l = Matched x y l
+Inv-loop x y most l₀ l = Matched x y l
 
 abbrev μ-loop : tie.MeasureT-loop
-μ-loop x y l₀ l = length x - l
+μ-loop x y most l₀ l = most - l
+
+shorter-requires : tie.Need-shorter-requires Inv-loop μ-loop
+shorter-requires c κs = search needs
 
 loop-holds : tie.Need-loop-holds Inv-loop μ-loop
 loop-holds c = matched-none _ _
 
+shared-slice-read-if1 : tie.Need-shared-slice-read-if1 Inv-loop μ-loop
+shared-slice-read-if1 c = omega (arith, c .before .before .before .shorter .ensures)
+
+shared-slice-read-if1-2 : tie.Need-shared-slice-read-if1-2 Inv-loop μ-loop
+shared-slice-read-if1-2 c = omega (arith, c .before .before .before .before .shorter .ensures)
+
 returns : tie.Need-returns Inv-loop μ-loop
-returns c = agree-unique _ _ _ (record { matched = c .before .before .loop .inv; differ = λ h k. absurd (omega arith) })
-
-shared-slice-read-if2 : tie.Need-shared-slice-read-if2 Inv-loop μ-loop
-shared-slice-read-if2 c = search needs
-
-shared-slice-read-if2-2 : tie.Need-shared-slice-read-if2-2 Inv-loop μ-loop
-shared-slice-read-if2-2 c = search needs
-
-returns-2 : tie.Need-returns-2 Inv-loop μ-loop
-returns-2 c = agree-unique _ _ _ (record { matched = c .before .before .before .before .before .loop .inv; differ = λ h k e. omega arith })
+returns c = agree-unique _ _ _ (record { matched = c .before .before .before .before .loop .inv; differ = λ h k e. omega arith })
 
 add-l : tie.Need-add-l Inv-loop μ-loop
 add-l c = search needs
@@ -37,10 +39,11 @@ loop-less c = search needs
 loop-again : tie.Need-loop-again Inv-loop μ-loop
 loop-again c =
     let b = c .before .before .before in
-    matched-more _ _ _ (b .before .before .loop .inv) (b .before .loop-test .taken) (b .if1 .left) (omega arith)
+    let m = b .before .before .shorter .ensures in
+    matched-more _ _ _ (b .before .loop .inv) (omega (arith, b .loop-test .taken)) (omega (arith, b .loop-test .taken)) (omega arith)
 
-returns-3 : tie.Need-returns-3 Inv-loop μ-loop
-returns-3 c = agree-unique _ _ _ (record { matched = c .before .loop .inv; differ = λ h k. absurd (omega arith) })
+returns-2 : tie.Need-returns-2 Inv-loop μ-loop
+returns-2 c = agree-unique _ _ _ (record { matched = c .before .loop .inv; differ = λ h k. absurd (omega (arith, c .before .before .shorter .ensures)) })
 
 pub common-length-spec : {M : Type 1} → statement M
 common-length-spec =
@@ -48,12 +51,12 @@ common-length-spec =
     (tie.spec
     Inv-loop
     μ-loop
+    shorter-requires
     loop-holds
+    shared-slice-read-if1
+    shared-slice-read-if1-2
     returns
-    shared-slice-read-if2
-    shared-slice-read-if2-2
-    returns-2
     add-l
     loop-less
     loop-again
-    returns-3)
+    returns-2)
