@@ -7,33 +7,64 @@ use Prim.Native.Nat.{ℕ, _+_, _-_, _≤_, _<_}
 use native.Mathlib.Numerals.{add-one}
 use native.Mathlib.Omega.{arith}
 use lib.ListN.{length, take, drop, set, length-set, length-drop, drop-of-length-le, take-append-drop}
-use lib.Seq.{take-all, take-suc-set, drop-set-lt, drop-drop, length-take-le}
-use Rattle.words.specs.Factorizations.{cflIn, cflInEnds, endsFrom}
+use lib.Seq.{getD-drop, take-all, take-suc-set, drop-set-lt, drop-drop, length-take-le}
+use Rattle.words.specs.Factorizations.{longestAntiLyndon, cflIn, cflInEnds, endsFrom}
 use Rattle.words.specs.CflInUnfold.{cfl-in-empty, cfl-in-step}
-use Rattle.words.specs.Scanned.{Scanned, scanned-one, scanned-longest, scanned-after}
+use Rattle.words.specs.Scanned.{Stops, scanned-one, scanned-longest, scanned-after}
 use Rattle.scan.specs.declared.Scan.{Scan}
 use Rattle.scan.specs.State.{startState, Resumes, Rests}
-use Rattle.cfl.specs.declared.Factor.{Factor}
-use Rattle.cfl.specs.CflIn.{FirstFactor, Room, storedAs, Walked}
+use Rattle.cfl.specs.declared.Run.{Run}
+use Rattle.cfl.specs.CflIn.{RunAt, Room, storedAs, Walked}
 
--- ---- one factor
+-- the part of the word that the code lends
+abbrev rest : List ℕ → ℕ → List ℕ
+rest w from = take (length w - from) (drop from w)
 
-pub factor-again : (w : List ℕ) (s : Scan) → Rests w s → s .length - s .border ≤ s .border
-    → FirstFactor w (record { length = s .length - s .border; next = record { border = s .border - (s .length - s .border); length = s .border } })
-factor-again w s r l = record {
-  positive = omega (arith, r .scanned .shorter);
-  upto = omega (arith, r .scanned .inside);
-  longest = scanned-longest (r .scanned) (r .stops);
-  next = λ m. scanned-after (r .scanned) (s .length - s .border) refl l;
-}
+rest-is : (w : List ℕ) (from : ℕ) → rest w from ≡ drop from w
+rest-is w from = take-all (length w - from) (drop from w) (rw (length-drop from w) (omega arith))
 
-pub factor-anew : (w : List ℕ) (s t : Scan) → Rests w s → t ≡ startState → FirstFactor w (record { length = s .length - s .border; next = t })
-factor-anew w s t r e = record {
-  positive = omega (arith, r .scanned .shorter);
-  upto = omega (arith, r .scanned .inside);
-  longest = scanned-longest (r .scanned) (r .stops);
-  next = λ m. rw e (scanned-one _ (rw length-drop (omega arith)));
-}
+-- ---- one factor, and its repetitions
+
+-- a repetition stops where the first one does
+stops-after : (v : List ℕ) (b p : ℕ) → Stops v (b + p) b → p ≤ b → Stops (drop p v) b (b - p)
+stops-after v b p h l k =
+    let i : p + (b - p) ≡ b = omega arith in
+    let j : p + b ≡ b + p = omega arith in
+    rw (getD-drop p v (b - p) 0, getD-drop p v b 0, i, j) (h (omega (arith, length-drop p v)))
+
+module _ {w : List ℕ} {from : ℕ} {r : Run} (t : RunAt w from r) where
+  pub run-positive : 0 < r .length
+  run-positive = omega (arith, t .rests .scanned .shorter)
+
+  pub run-inside : from < length w → from + r .length ≤ length w
+  run-inside l = omega (arith, t .rests .scanned .inside, length-drop from w)
+
+  run-longest : longestAntiLyndon (drop from w) ≡ r .length
+  run-longest = scanned-longest (t .rests .scanned) (t .rests .stops) ∙ omega arith
+
+  pub run-again : from + r .length < r .until → RunAt w (from + r .length) r
+  run-again l =
+      let b = r .until - 1 - from in
+      let p : r .length ≡ b + r .length - b = omega arith in
+      let q : r .until - 1 - (from + r .length) ≡ b - r .length = omega arith in
+      let m : b - r .length + r .length ≡ b = omega arith in
+      record {
+        before = l;
+        rests = rw (q, m) (record {
+          scanned = rw (drop-drop (r .length) from w) at (scanned-after (t .rests .scanned) (r .length) p (omega arith));
+          stops = rw (drop-drop (r .length) from w) at (stops-after (drop from w) b (r .length) (t .rests .stops) (omega arith));
+        });
+      }
+
+pub run-resumes : (w : List ℕ) (from : ℕ) (s : Scan) → length w ≤ 4096 → from < length w → s ≡ startState → Resumes (rest w from) s
+run-resumes w from s h l e = rw (rest-is w from, e) (record { short = rw length-drop (omega arith); scanned = scanned-one _ (rw length-drop (omega arith)) })
+
+pub run-scanned : (w : List ℕ) (from : ℕ) (s : Scan) → Rests (rest w from) s
+    → RunAt w from (record { length = s .length - s .border; until = from + s .border + 1 })
+run-scanned w from s t =
+    let q : from + s .border + 1 - 1 - from ≡ s .border = omega arith in
+    let m : s .border + (s .length - s .border) ≡ s .length = omega (arith, t .scanned .shorter) in
+    record { before = omega arith; rests = rw (q, m) (rw (rest-is w from) at t) }
 
 -- ---- the ends that are still to come
 
@@ -48,25 +79,12 @@ none-left : (w : List ℕ) (from : ℕ) → length w ≤ from → endsLeft w fro
 unfolding endsFrom
 none-left w from l = rw (drop-of-length-le w {i = from} l, cfl-in-empty)
 
--- the part of the word that the code lends
-abbrev rest : List ℕ → ℕ → List ℕ
-rest w from = take (length w - from) (drop from w)
-
-rest-is : (w : List ℕ) (from : ℕ) → rest w from ≡ drop from w
-rest-is w from = take-all (length w - from) (drop from w) (rw (length-drop from w) (omega arith))
-
-module _ (w : List ℕ) (from : ℕ) (l : from < length w) (r : Factor) (t : FirstFactor (rest w from) r) where
-  factor : FirstFactor (drop from w) r
-  factor = rw (rest-is w from) at t
-
-  pub factor-inside : from + r .length ≤ length w
-  factor-inside = omega (arith, factor .upto, length-drop from w)
-
-  end-taken : endsLeft w from ≡ (from + r .length) ∷ endsLeft w (from + r .length)
-  unfolding endsFrom
-  end-taken =
-      let size : length (take (r .length) (drop from w)) ≡ r .length = length-take-le (r .length) (drop from w) (factor .upto) in
-      rw (cfl-in-step (drop from w) (rw length-drop (omega arith)), factor .longest, size, drop-drop (r .length) from w)
+end-taken : (w : List ℕ) (from : ℕ) (l : from < length w) (r : Run) → RunAt w from r → endsLeft w from ≡ (from + r .length) ∷ endsLeft w (from + r .length)
+unfolding endsFrom
+end-taken w from l r t =
+    let inside : r .length ≤ length (drop from w) = omega (arith, run-inside t l, length-drop from w) in
+    let size : length (take (r .length) (drop from w)) ≡ r .length = length-take-le (r .length) (drop from w) inside in
+    rw (cfl-in-step (drop from w) (rw length-drop (omega arith)), run-longest t, size, drop-drop (r .length) from w)
 
 -- ---- the loop
 
@@ -79,19 +97,19 @@ abbrev pub Content : Bool → List ℕ → List ℕ → List ℕ → ℕ → ℕ
 Content true w buffer₀ buffer from count = Stored w buffer₀ buffer from count
 Content false w buffer₀ buffer from count = buffer ≡ buffer₀
 
-pub record Walking (w buffer₀ buffer : List ℕ) (store : Bool) (s : Scan) (from count : ℕ) : Type 0 where
+pub record Walking (w buffer₀ buffer : List ℕ) (store : Bool) (run : Run) (from count : ℕ) : Type 0 where
   pub inside : from ≤ length w
   pub few : count ≤ from
-  pub scanned : from < length w → Scanned (drop from w) (s .length) (s .border)
+  pub run-right : from < run .until → RunAt w from run
   pub number : count + length (endsLeft w from) ≡ length (cflInEnds w)
   pub content : Content store w buffer₀ buffer from count
   pub long : length buffer ≡ length buffer₀
 
-pub walk-start : (w buffer : List ℕ) (store : Bool) (s : Scan) → s ≡ startState → Walking w buffer buffer store s 0 0
-walk-start w buffer store s e = record {
+pub walk-start : (w buffer : List ℕ) (store : Bool) → Walking w buffer buffer store (record { length = 0; until = 0 }) 0 0
+walk-start w buffer store = record {
   inside = omega arith;
   few = omega arith;
-  scanned = λ l. rw e (scanned-one w l);
+  run-right = λ l. absurd (omega arith);
   number = rw (all-left w) (omega arith);
   content = go store;
   long = refl;
@@ -101,18 +119,14 @@ walk-start w buffer store s e = record {
     go true = record { content = all-left w; kept = refl }
     go false = refl
 
-pub walk-resumes : (w buffer₀ buffer : List ℕ) (store : Bool) (s : Scan) (from count : ℕ)
-    → length w ≤ 4096 → Walking w buffer₀ buffer store s from count → from < length w → Resumes (rest w from) s
-walk-resumes w buffer₀ buffer store s from count f g l = rw (rest-is w from) (record { short = rw length-drop (omega arith); scanned = g .scanned l })
-
-module _ (w buffer₀ buffer : List ℕ) (s : Scan) (from count : ℕ) (l : from < length w) (r : Factor) (t : FirstFactor (rest w from) r) where
+module _ (w buffer₀ buffer : List ℕ) (s : Run) (from count : ℕ) (l : from < length w) (r : Run) (t : RunAt w from r) where
   turn : (buffer′ : List ℕ) (store : Bool) → Walking w buffer₀ buffer store s from count
       → Content store w buffer₀ buffer′ (from + r .length) (count + 1) → length buffer′ ≡ length buffer
-      → Walking w buffer₀ buffer′ store (r .next) (from + r .length) (count + 1)
+      → Walking w buffer₀ buffer′ store r (from + r .length) (count + 1)
   turn buffer′ store g x y = record {
-    inside = factor-inside w from l r t;
-    few = omega (arith, g .few, factor w from l r t .positive);
-    scanned = λ m. rw (drop-drop (r .length) from w) at (factor w from l r t .next (rw length-drop (omega arith)));
+    inside = run-inside t l;
+    few = omega (arith, g .few, run-positive t);
+    run-right = run-again t;
     number = omega (arith, g .number, ap length (end-taken w from l r t));
     content = x;
     long = y ∙ g .long;
@@ -122,12 +136,12 @@ module _ (w buffer₀ buffer : List ℕ) (s : Scan) (from count : ℕ) (l : from
   walk-room store g m e = omega (arith, g .number, g .long, m .entries e, ap length (end-taken w from l r t))
 
   pub walk-counts : (store : Bool) → store ≡ false → Walking w buffer₀ buffer store s from count
-      → Walking w buffer₀ buffer store (r .next) (from + r .length) (count + 1)
+      → Walking w buffer₀ buffer store r (from + r .length) (count + 1)
   walk-counts true e g = absurd (true≢false e)
   walk-counts false e g = turn buffer false g (g .content) refl
 
   pub walk-stores : (store : Bool) → store ≡ true → Walking w buffer₀ buffer store s from count → count < length buffer
-      → Walking w buffer₀ (set buffer count (from + r .length)) store (r .next) (from + r .length) (count + 1)
+      → Walking w buffer₀ (set buffer count (from + r .length)) store r (from + r .length) (count + 1)
   walk-stores false e g m = absurd (false≢true e)
   walk-stores true e g m = turn (set buffer count end) true g (record {
     content = rw (add-one count, take-suc-set buffer count end m, append-assoc) (rw (end-taken w from l r t) at (g .content .content));
@@ -137,7 +151,7 @@ module _ (w buffer₀ buffer : List ℕ) (s : Scan) (from count : ℕ) (l : from
       end : ℕ
       end = from + r .length
 
-pub walk-ends : (w buffer₀ buffer : List ℕ) (store : Bool) (s : Scan) (from count : ℕ)
+pub walk-ends : (w buffer₀ buffer : List ℕ) (store : Bool) (s : Run) (from count : ℕ)
     → Walking w buffer₀ buffer store s from count → length w ≤ from → Walked w buffer₀ store count buffer
 walk-ends w buffer₀ buffer store s from count g l = record { count = n; result = go store (g .content) }
   where

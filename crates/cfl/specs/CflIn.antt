@@ -2,15 +2,15 @@
 use mathlib.Core.Path.{_≡_}
 use mathlib.Core.Bool.{Bool, true, false}
 use mathlib.Core.List.{List, [], _∷_, _++_}
-use Prim.Native.Nat.{ℕ, _≤_, _<_}
+use Prim.Native.Nat.{ℕ, _+_, _-_, _≤_, _<_}
 use lib.ListN.{length, drop}
-use Rattle.words.specs.Factorizations.{longestAntiLyndon, cflInEnds}
-use Rattle.words.specs.Scanned.{Scanned}
+use Rattle.words.specs.Factorizations.{cflInEnds}
+use Rattle.scan.specs.State.{Rests}
 use Rattle.checks.specs.Refusals.{recordRefusal, resultRefusal}
 use Rattle.checks.specs.Answers.{checkedAs, Filled}
 use Rattle.checks.specs.declared.Checked.{Checked}
 use Rattle.checks.specs.declared.Counted.{Counted}
-use Rattle.cfl.specs.declared.Factor.{Factor}
+use Rattle.cfl.specs.declared.Run.{Run}
 
 -- the lines of the table that the strict cut tries: 1, 2 and 4
 abbrev pub cflInLines : List ℕ → ℕ → List ℕ
@@ -22,11 +22,15 @@ CflInDone w buffer r buffer′ = Filled (cflInLines w (length buffer)) (length (
 
 -- ---- inner functions
 
-pub record FirstFactor (w : List ℕ) (r : Factor) : Type 0 where
-  pub positive : 0 < r .length
-  pub upto : r .length ≤ length w
-  pub longest : longestAntiLyndon w ≡ r .length
-  pub next : r .length < length w → Scanned (drop (r .length) w) (r .next .length) (r .next .border)
+-- the first factor from a place on has r .length letters, and so has each after it that begins before r .until
+pub record RunAt (w : List ℕ) (from : ℕ) (r : Run) : Type 0 where
+  pub before : from < r .until
+  pub rests : Rests (drop from w) (record { border = r .until - 1 - from; length = r .until - 1 - from + r .length })
+
+pub record RunAsked (w : List ℕ) (from : ℕ) (known : Run) : Type 0 where
+  pub short : length w ≤ 4096
+  pub inside : from < length w
+  pub right : from < known .until → RunAt w from known
 
 pub record Room (w buffer : List ℕ) (store : Bool) : Type 0 where
   pub short : length w ≤ 4096

@@ -4,59 +4,54 @@ use checks::Counted;
 use scan::Scan;
 ghost use Prim.Native.Nat.{_≤_};
 ghost use lib.ListN.{length};
-ghost use Rattle.scan.specs.State.{Resumes};
-ghost use Rattle.cfl.specs.CflIn.{CflInDone, FirstFactor, Room, RoomChecked, Walked};
+ghost use Rattle.cfl.specs.CflIn.{CflInDone, Room, RoomChecked, RunAsked, RunAt, Walked};
 
-/// The first factor of a word, and the state in which the scan of what follows it goes on.
-pub struct Factor {
-    pub length: usize,
-    pub next: Scan,
+// A factor that is repeated: its length, and the place before which each of its repetitions begins.
+struct Run {
+    length: usize,
+    until: usize,
 }
 
-/// The longest anti-Lyndon prefix, from a scan of the word. Where its border is as long as the factor, the rest is scanned already.
-pub fn first_factor(word: &[u8], from: Scan) -> Factor
-    requires { ⌜ Resumes (now word) from ⌝ }
-    ensures { λ r. ⌜ FirstFactor (now (word .entry)) r ⌝ }
+// The run at `from`: the one that is known, or that of the longest anti-Lyndon prefix there, from a scan.
+fn run_at(word: &[u8], from: usize, known: Run) -> Run
+    requires { ⌜ RunAsked (now word) from known ⌝ }
+    ensures { λ r. ⌜ RunAt (now (word .entry)) from r ⌝ }
 {
-    let s = scan::scan_on(word, from);
-    let border = s.border;
-    let length = s.length - border;
-    if length <= border {
-        return Factor {
-            length,
-            next: Scan {
-                border: border - length,
-                length: border,
-            },
-        };
+    if from < known.until {
+        return known;
     }
-    Factor {
-        length,
-        next: Scan::start(),
+    let start = Scan::start();
+    let s = scan::scan_on(&word[from..], start);
+    let border = s.border;
+    Run {
+        length: s.length - border,
+        until: from + border + 1,
     }
 }
 
-/// Counts the factors, and stores their ends where `store` says so.
+// Counts the factors, and stores their ends where `store` says so.
 fn walk(word: &[u8], ends: &mut [u16], store: bool) -> usize
     requires { ⌜ Room (now word) (now ends) store ⌝ }
     ensures { λ r. ⌜ Walked (now (word .entry)) (now (ends .entry)) store r (now (ends .exit)) ⌝ }
 {
-    let mut s = Scan::start();
+    let mut run = Run {
+        length: 0,
+        until: 0,
+    };
     let mut from: usize = 0;
     let mut count: usize = 0;
     while from < word.len() {
-        let factor = first_factor(&word[from..], s);
-        from += factor.length;
+        run = run_at(word, from, run);
+        from += run.length;
         if store {
             ends[count] = from as u16;
         }
         count += 1;
-        s = factor.next;
     }
     count
 }
 
-/// Line 4. There are no more factors than letters, so they are counted only for a buffer that is shorter than the word.
+// Line 4. There are no more factors than letters, so they are counted only for a buffer that is shorter than the word.
 fn check_room(word: &[u8], ends: &mut [u16]) -> Checked
     requires { ⌜ length (now word) ≤ 4096 ⌝ }
     ensures { λ r. ⌜ RoomChecked (now (word .entry)) (now (ends .entry)) r (now (ends .exit)) ⌝ }

@@ -20,12 +20,12 @@ unfoldable pub ascii : String → List ℕ
 ascii empty = []
 ascii (c then cs) = code c ∷ ascii cs
 
--- a number below 10 ^ k in decimal; a digit d is the byte 48 + d
+-- a number of at most k decimal digits; a digit d is the byte 48 + d
 unfoldable pub decimalWithin : ℕ → ℕ → List ℕ
 decimalWithin zero n = []
 decimalWithin (suc k) n = elim (ltb n 10) [ true ↦ (48 + n) ∷ [] | false ↦ decimalWithin k (n / 10) ++ (48 + n % 10) ∷ [] ]
 
--- a number in decimal, without leading zeros
+-- a number in decimal, without leading zeros; n has at most n + 1 digits
 unfoldable pub decimal : ℕ → List ℕ
 unfolding decimalWithin
 decimal n = decimalWithin (suc n) n
@@ -76,7 +76,7 @@ unfoldable pub listingOf : List ℕ → List ℕ
 unfolding linesAs recordRefusal
 listingOf w = linesAs (recordRefusal w) w
 
--- what the call answers and leaves in the buffers: the listing's length, and the listing at the front of out; the other buffers as both cuts leave them
+-- what the call answers and leaves in its buffers: the listing's length, the listing at the front of out, and the others as the two cuts leave them
 pub record Listed (w work ends strict out : List ℕ) (r : ℕ) (work′ ends′ strict′ out′ : List ℕ) : Type 0 where
   pub size : r ≡ length (listingOf w)
   pub text : out′ ≡ listingOf w ++ drop (length (listingOf w)) out

@@ -5,6 +5,7 @@ ghost use lib.ListN.{length};
 ghost use Rattle.listing.specs.Listing.{decimal, commaList, line, sevenLines, refusedLine};
 ghost use Rattle.listing.specs.Writing.{Fits, Wrote, Printable};
 
+// The bytes as they are.
 fn write_bytes(bytes: &[u8], out: &mut [u8], at: usize) -> usize
     requires { ⌜ Fits at (now bytes) (now out) ⌝ }
     ensures { λ r. ⌜ Wrote at (now (bytes .entry)) (now (out .entry)) r (now (out .exit)) ⌝ }

@@ -15,7 +15,9 @@ use Rattle.cfl.proofs.cfl_in.Tie as tie
 passed-at : (c : tie.After-enum-told) → recordRefusal (c .before .before .before .before .before .args .word .now) ≡ 0
 passed-at c = passed _ _ (c .before .before .check-record .ensures) (c .before .match .keys1)
 
-roomy-at : (c : tie.After-enum-told3) → resultRefusal (length (c .before .before .before .before .before .before .before .before .before .before .before .args .ends .now)) (length (cflInEnds (c .before .before .before .before .before .before .before .before .before .before .before .args .word .now))) ≡ 0
+roomy-at : (c : tie.After-enum-told3)
+    → (let a = c .before .before .before .before .before .before .before .before .before .before .before .args in
+    resultRefusal (length (a .ends .now)) (length (cflInEnds (a .word .now))) ≡ 0)
 roomy-at c = passed _ _ (c .before .before .before .before .check-room .ensures .answer) (c .before .match2 .keys1)
 
 check-record-requires : tie.Need-check-record-requires
@@ -53,18 +55,24 @@ same-length c = search needs
 returns-2 : tie.Need-returns-2
 returns-2 c =
     let room = c .before .before .before .before .before .check-room .ensures in
-    result-refused _ _ (passed-at (c .before .before .before .before .before .before .before)) _ (room .kept) _ (number-is _ _ _ (room .answer) (c .number2 .ensures)) (refused _ _ (room .answer) (c .before .before .match2 .keys2))
+    result-refused _ _ (passed-at (c .before .before .before .before .before .before .before)) _ (room .kept) _
+    (number-is _ _ _ (room .answer) (c .number2 .ensures)) (refused _ _ (room .answer) (c .before .before .match2 .keys2))
 
 walk-requires : tie.Need-walk-requires
 walk-requires c κs =
     let room = c .before .before .before .before .before .check-room in
-    record { short = record-accepted _ (passed-at (c .before .before .before .before .before .before .before)) .short; entries = λ e. omega (arith, result-accepted _ _ (roomy-at (c .before)), room .kept) }
+    record {
+      short = record-accepted _ (passed-at (c .before .before .before .before .before .before .before)) .short;
+      entries = λ e. omega (arith, result-accepted _ _ (roomy-at (c .before)), room .kept);
+    }
 
 same-length-2 : tie.Need-same-length-2
 same-length-2 c = search needs
 
 returns-3 : tie.Need-returns-3
-returns-3 c = ends-written _ _ (passed-at (c .before .before .before .before .before .before .before .before .before .before)) _ _ _ (c .before .before .before .before .before .before .before .before .check-room .ensures .kept) (roomy-at (c .before .before .before .before)) (c .before .before .walk .ensures)
+returns-3 c =
+    let room = c .before .before .before .before .before .before .before .before in
+    ends-written _ _ (passed-at (room .before .before)) _ _ _ (room .check-room .ensures .kept) (roomy-at (c .before .before .before .before)) (c .before .before .walk .ensures)
 
 pub cfl-in-spec : {M : Type 1} → statement M
 cfl-in-spec =
