@@ -1,4 +1,5 @@
-//! Times the verified calls and the peer's, and prints the tables of docs/BENCHMARKS.md. An argument picks the calls whose names have it.
+//! Times the verified calls and the peer's. A line for each call, input and length: their names and the nanoseconds of one call of
+//! both. An argument picks the calls whose names have it.
 mod inputs;
 
 use inputs::{Input, INPUTS};
@@ -6,8 +7,14 @@ use metsroeb_tests::{Calls, PEER, VERIFIED};
 use std::hint::black_box;
 use std::time::Instant;
 
+// Moves all code behind it by METSROEB_PAD bytes: where a loop stands in memory can double its time.
+std::arch::global_asm!(".text", ".globl metsroeb_bench_pad", "metsroeb_bench_pad:", concat!(".zero 16 + ", env!("METSROEB_PAD")));
+extern "C" {
+    fn metsroeb_bench_pad();
+}
+
 const LENGTHS: [usize; 4] = [512, 1024, 2048, 4096];
-const ROUNDS: usize = 101;
+const ROUNDS: usize = 25;
 const BATCH_NS: f64 = 50_000.0;
 
 /// A record, what the calls read beside it, and the buffers that they fill.
@@ -105,41 +112,14 @@ fn measure(call: Call, (_, records, make): Input) -> [(f64, f64); 4] {
     times.map(|(mut verified, mut peer)| (median(&mut verified), median(&mut peer)))
 }
 
-/// A number with at least three digits, in groups of three.
-fn number(ns: f64) -> String {
-    if ns < 100.0 {
-        return format!("{ns:.1}");
-    }
-    let digits = format!("{ns:.0}");
-    let groups: Vec<&[u8]> = digits.as_bytes().rchunks(3).rev().collect();
-    String::from_utf8(groups.join(&b',')).unwrap()
-}
-
-fn cell((verified, peer): (f64, f64)) -> String {
-    let ratio = format!("{:.2}", verified / peer);
-    let shown = if ratio.as_str() > "1.00" { format!("**{ratio}**") } else { ratio };
-    format!("{} / {} = {shown}", number(verified), number(peer))
-}
-
 fn main() {
-    println!("Nanoseconds of a call, verified / peer = ratio: medians of {ROUNDS} batches, in alternation.");
-    println!("Growth: of the verified call's time, from each length to the next.");
-    println!("Buffers are not cleared before a call; each call finds them as the call before it left them.\n");
+    black_box(metsroeb_bench_pad as *const ());
     let wanted = std::env::args().nth(1).unwrap_or_default();
-    let mut summary = Vec::new();
     for (name, call) in CALLS.into_iter().filter(|(name, _)| name.contains(&wanted)) {
-        println!("### {name}\n");
-        println!("| record | 512 | 1,024 | 2,048 | 4,096 | growth |\n|---|---|---|---|---|---|");
-        let mut ratios = Vec::new();
         for input in INPUTS {
-            let times = measure(call, input);
-            let growth: Vec<String> = times.windows(2).map(|pair| format!("{:.1}", pair[1].0 / pair[0].0)).collect();
-            println!("| {} | {} | {} |", input.0, times.map(cell).join(" | "), growth.join(" "));
-            ratios.extend(times.map(|(verified, peer)| verified / peer));
+            for (n, (verified, peer)) in LENGTHS.into_iter().zip(measure(call, input)) {
+                println!("{name}\t{}\t{n}\t{verified:.2}\t{peer:.2}", input.0);
+            }
         }
-        println!();
-        let middle = median(&mut ratios);
-        summary.push(format!("| {name} | {:.2} | {middle:.2} | {:.2} |", ratios[0], ratios[ratios.len() - 1]));
     }
-    println!("### Ratios\n\n| call | least | median | greatest |\n|---|---|---|---|\n{}", summary.join("\n"));
 }
