@@ -40,7 +40,8 @@ number-is k n m e f = f ∙ ap numberOf e ∙ number-checked n
 -- ---- calls that fill a result buffer
 
 -- a line passes, or refuses
-pub filled-passed : {e : ℕ} {lines : List ℕ} {n : ℕ} {vs buffer buffer′ : List ℕ} {r : Counted} → e ≡ 0 → Filled lines n vs buffer r buffer′ → Filled (e ∷ lines) n vs buffer r buffer′
+pub filled-passed : {e : ℕ} {lines : List ℕ} {n : ℕ} {vs buffer buffer′ : List ℕ} {r : Counted}
+    → e ≡ 0 → Filled lines n vs buffer r buffer′ → Filled (e ∷ lines) n vs buffer r buffer′
 filled-passed {e = zero} z f = record { answer = f .answer; result = f .result }
 filled-passed {e = suc e} z f = absurd (omega arith)
 

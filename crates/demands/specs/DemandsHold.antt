@@ -27,7 +27,8 @@ use Rattle.compare.specs.Compare.{compareRefusal, comparisonAs}
 use Rattle.reading.specs.Factor.{factorRefusal}
 use Rattle.reading.specs.Summary.{summaryRefusal, summaryAs}
 use Rattle.demands.specs.Demands.{countRefusal, testRefusal, signRefusal, Answers, Demand1, Wrote, Demand2, Demand3, Runs}
-use Rattle.demands.specs.Lines.{AllListed, none, more, first-listed, record-listed, work-listed, result-listed, range-listed, start-listed, ends-listed, number-listed, comparison-accepted}
+use Rattle.demands.specs.Lines.{AllListed, none, more, first-listed, comparison-accepted}
+use Rattle.demands.specs.Lines.{record-listed, work-listed, result-listed, range-listed, start-listed, ends-listed, number-listed}
 
 -- ---- demand 1
 

@@ -178,7 +178,8 @@ sign-numbers w first end start other s x = go (compareRefusal w first end start 
     go zero z x = let y : s ≡ sign w first end start other = cc in record { refusal = rw z; sign-is = rw (z, y) (sign-read (sign-is w first end start other)) }
     go (suc e) z x = let b : _≡_ {A = ℕ} 0 1 = cc in absurd (omega arith)
 
-pub sign-refused : (w : List ℕ) (first end start other number : ℕ) → Comparison.Refused number ≡ comparisonAs (compareRefusal w first end start other) (sign w first end start other)
+pub sign-refused : (w : List ℕ) (first end start other number : ℕ)
+    → Comparison.Refused number ≡ comparisonAs (compareRefusal w first end start other) (sign w first end start other)
     → SignNumber w first end start other number (pos 0)
 sign-refused w first end start other number x = go (compareRefusal w first end start other) refl x
   where

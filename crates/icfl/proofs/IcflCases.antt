@@ -61,6 +61,8 @@ module _ (w work buffer : List ℕ) (accepted : recordRefusal w ≡ 0) where
           let r′ : resultRefusal (length buffer) (length (icflEnds w)) ≡ 0 = rw (x .count) at r in
           let n : found .first + found .count - found .first ≡ found .count = omega arith in
           record {
-            filled = filled-passed accepted (filled-passed spacious (filled-passed r′ (filled-done _ (found .count) (icflEnds w) buffer buffer′ (x .count) (rw (n, x .ends) at e))));
+            filled =
+                filled-passed accepted
+                (filled-passed spacious (filled-passed r′ (filled-done _ (found .count) (icflEnds w) buffer buffer′ (x .count) (rw (n, x .ends) at e))));
             worked = rw (accepted, spacious, r′) zeroed;
           }

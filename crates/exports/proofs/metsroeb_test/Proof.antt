@@ -15,7 +15,9 @@ enum-known-found : tie.Need-enum-known-found
 enum-known-found c = search needs
 
 cast-failing : tie.Need-cast-failing
-cast-failing c = let b = test-small _ _ _ _ _ _ (rw (c .before .found .given .1) at (c .before .before .before .before .before .find-extension .ensures)) in omega (arith, b .failing)
+cast-failing c =
+    let at-find-extension = c .before .before .before .before .before in
+    let b = test-small _ _ _ _ _ _ (rw (c .before .found .given .1) at (at-find-extension .find-extension .ensures)) in omega (arith, b .failing)
 
 cast-prefix : tie.Need-cast-prefix
 cast-prefix c = let b = test-small _ _ _ _ _ _ (rw (c .before .found .given .1) at (c .before .before .before .before .before .find-extension .ensures)) in omega (arith, b .prefix)

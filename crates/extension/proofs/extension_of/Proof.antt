@@ -12,12 +12,26 @@ same-length : tie.Need-same-length
 same-length c = search needs
 
 returns : tie.Need-returns
-returns c = record { answer = verdict-whole _ _ _ (c .before .before .before .scan-borders .ensures .scanned) (c .if1 .taken); kept = c .before .before .before .scan-borders .ensures .kept }
+returns c =
+    let at-scan-borders = c .before .before .before in
+    record {
+      answer = verdict-whole _ _ _ (at-scan-borders .scan-borders .ensures .scanned) (c .if1 .taken);
+      kept = at-scan-borders .scan-borders .ensures .kept;
+    }
 
 shortest-border-requires : tie.Need-shortest-border-requires
 shortest-border-requires c κs =
-    let s = c .before .before .before .before .scan-borders .ensures in
-    record { scanned = s .scanned; inside = c .before .if1 .left; entries = omega (arith, c .before .before .before .before .before .before .before .before .pre .entries, c .before .before .before .before .scan-borders .kept); above = s .stops (c .before .if1 .left); borders = s .table }
+    let at-scan-borders = c .before .before .before .before in
+    let x = at-scan-borders .before .before .before .before in
+    let s = at-scan-borders .scan-borders .ensures in
+    record {
+      scanned = s .scanned;
+      inside = c .before .if1 .left;
+      entries = omega (arith, x .pre .entries, at-scan-borders .scan-borders .kept);
+      above = s .stops
+          (c .before .if1 .left);
+      borders = s .table;
+    }
 
 add-t9 : tie.Need-add-t9
 add-t9 c = search needs

@@ -44,22 +44,42 @@ number-requires-2 c κs = search needs
 
 returns-2 : tie.Need-returns-2
 returns-2 c =
-    let room = c .before .before .before .check-work in
-    work-refused _ _ (passed-at (c .before .before .before .before)) _ (number-is _ _ _ (room .ensures) (c .number2 .ensures)) (refused _ _ (room .ensures) (c .before .before .match2 .keys2))
+    let at-check-work = c .before .before .before in
+    let c4 = at-check-work .before in
+    let room = at-check-work .check-work in
+    work-refused _ _ (passed-at c4) _ (number-is _ _ _ (room .ensures) (c .number2 .ensures)) (refused _ _ (room .ensures) (c .before .before .match2 .keys2))
 
 extension-of-requires : tie.Need-extension-of-requires
-extension-of-requires c κs = fits _ _ (passed-at (c .before .before .before .before)) (passed _ _ (c .before .before .before .check-work .ensures) (c .before .before .match2 .keys1))
+extension-of-requires c κs =
+    let at-check-work = c .before .before .before in
+    let c4 = at-check-work .before in
+    fits _ _ (passed-at c4) (passed _ _ (at-check-work .check-work .ensures) (c .before .before .match2 .keys1))
 
 clear-requires : tie.Need-clear-requires
-clear-requires c κs = omega (arith, c .before .before .before .extension-of .kept, fits (c .before .before .before .before .before .before .before .before .before .before .before .before .before .args .word .now) (c .before .before .before .before .before .before .before .before .before .before .before .before .before .args .work .now) (passed-at (c .before .before .before .before .before .before .before .before)) (passed _ _ (c .before .before .before .before .before .before .before .check-work .ensures) (c .before .before .before .before .before .before .match2 .keys1)) .entries)
+clear-requires c κs =
+    let at-extension-of = c .before .before .before in
+    let c6 = at-extension-of .before .before .before in
+    let at-check-work = c6 .before in
+    let c8 = at-check-work .before in
+    let x = c8 .before .before .before .before .before in
+    omega (
+      arith,
+      at-extension-of .extension-of .kept,
+      fits (x .args .word .now) (x .args .work .now) (passed-at c8) (passed _ _ (at-check-work .check-work .ensures)
+          (c6 .match2 .keys1)) .entries,
+    )
 
 same-length : tie.Need-same-length
 same-length c = search needs
 
 returns-3 : tie.Need-returns-3
 returns-3 c =
-    let room = passed _ _ (c .before .before .before .before .before .before .before .before .before .before .check-work .ensures) (c .before .before .before .before .before .before .before .before .before .match2 .keys1) in
-    verdict-found _ _ (passed-at (c .before .before .before .before .before .before .before .before .before .before .before)) room _ _ _ (c .before .before .before .before .before .before .extension-of .ensures) (c .before .before .clear .ensures)
+    let at-extension-of = c .before .before .before .before .before .before in
+    let c9 = at-extension-of .before .before .before in
+    let at-check-work = c9 .before in
+    let c11 = at-check-work .before in
+    let room = passed _ _ (at-check-work .check-work .ensures) (c9 .match2 .keys1) in
+    verdict-found _ _ (passed-at c11) room _ _ _ (at-extension-of .extension-of .ensures) (c .before .before .clear .ensures)
 
 pub find-extension-spec : {M : Type 1} → statement M
 find-extension-spec =

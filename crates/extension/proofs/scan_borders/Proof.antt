@@ -52,9 +52,11 @@ loop-less c = step-nearer _ (c .before .before .before .before .before .before .
 
 loop-again : tie.Need-loop-again Inv-loop μ-loop
 loop-again c =
-    let at = c .before .before .before .before .before .before in
+    let c4 = c .before .before .before .before in
+    let c6 = c4 .before .before in
+    let at = c6 in
     let start = at .before .before .before .before in
-    scan-goes-on (start .args .word .now) (start .args .work .now) (at .loop .work) (at .loop .s) (c .step .result) (at .loop .inv) (start .pre) (c .before .before .before .before .if1 .taken)
+    scan-goes-on (start .args .word .now) (start .args .work .now) (at .loop .work) (at .loop .s) (c .step .result) (at .loop .inv) (start .pre) (c4 .if1 .taken)
     (c .before .if2 .left) (c .step .ensures)
 
 same-length-2 : tie.Need-same-length-2 Inv-loop μ-loop

@@ -17,8 +17,11 @@ abbrev μ-loop : tie.MeasureT-loop
 
 -- the entry that a turn reads
 entry-at : (c : tie.After-shared-slice-known2 Inv-loop μ-loop)
-    → Scanned (c .before .before .before .before .args .word .now) (c .before .before .loop .border) (getD (c .before .before .before .before .args .table .now) (c .before .before .loop .border - 1) 0)
-entry-at c = entry (c .before .before .before .before .args .word .now) (c .before .before .before .before .args .table .now) _ _ (c .before .before .before .before .pre) _ (c .before .before .loop .inv) (c .before .loop-test .taken)
+    → (let x = c .before .before .before .before in
+    Scanned (x .args .word .now) (c .before .before .loop .border) (getD (x .args .table .now) (c .before .before .loop .border - 1) 0))
+entry-at c =
+    let x = c .before .before .before .before in
+    entry (x .args .word .now) (x .args .table .now) _ _ (x .pre) _ (c .before .before .loop .inv) (c .before .loop-test .taken)
 
 shared-slice-read-new : tie.Need-shared-slice-read-new Inv-loop μ-loop
 shared-slice-read-new c = search needs
@@ -33,22 +36,35 @@ mul-next : tie.Need-mul-next Inv-loop μ-loop
 mul-next c = search needs
 
 shared-slice-read-next : tie.Need-shared-slice-read-next Inv-loop μ-loop
-shared-slice-read-next c = omega (arith, c .before .before .loop .inv .border .shorter, c .before .before .before .before .pre .inside, c .before .before .before .before .pre .entries)
+shared-slice-read-next c =
+    let x = c .before .before .before .before in
+    omega (arith, c .before .before .loop .inv .border .shorter, x .pre .inside, x .pre .entries)
 
 cast-next : tie.Need-cast-next Inv-loop μ-loop
 cast-next c = omega (arith, c .shared-slice-known2 .given (c .before .before .loop .border - 1) .fits)
 
 shared-slice-read-if1 : tie.Need-shared-slice-read-if1 Inv-loop μ-loop
-shared-slice-read-if1 c = omega (arith, entry-at (c .before) .shorter, c .before .before .before .loop .inv .border .shorter, c .before .before .before .before .before .pre .inside)
+shared-slice-read-if1 c =
+    let turn = c .before .before .before in
+    let x = turn .before .before in
+    omega (arith, entry-at (c .before) .shorter, turn .loop .inv .border .shorter, x .pre .inside)
 
 returns : tie.Need-returns Inv-loop μ-loop
-returns c = walk-found (c .before .before .before .before .before .before .args .word .now) (c .before .before .before .before .before .before .args .table .now) _ _ (c .before .before .before .before .before .before .pre) _ (c .before .before .before .before .loop .inv) (c .before .before .before .loop-test .taken) (c .if1 .taken)
+returns c =
+    let turn = c .before .before .before in
+    let turn′ = turn .before in
+    let x = turn′ .before .before in
+    walk-found (x .args .word .now) (x .args .table .now) _ _ (x .pre) _ (turn′ .loop .inv) (turn .loop-test .taken) (c .if1 .taken)
 
 loop-less : tie.Need-loop-less Inv-loop μ-loop
 loop-less c = entry-at (c .before .before) .shorter
 
 loop-again : tie.Need-loop-again Inv-loop μ-loop
-loop-again c = walk-further (c .before .before .before .before .before .before .args .word .now) (c .before .before .before .before .before .before .args .table .now) _ _ (c .before .before .before .before .before .before .pre) _ (c .before .before .before .before .loop .inv) (c .before .before .before .loop-test .taken) (c .if1 .left)
+loop-again c =
+    let turn = c .before .before .before in
+    let turn′ = turn .before in
+    let x = turn′ .before .before in
+    walk-further (x .args .word .now) (x .args .table .now) _ _ (x .pre) _ (turn′ .loop .inv) (turn .loop-test .taken) (c .if1 .left)
 
 returns-2 : tie.Need-returns-2 Inv-loop μ-loop
 returns-2 c = walk-none _ _ _ _ (c .before .before .before .pre) _ (c .before .loop .inv) (c .loop-test .left)

@@ -14,19 +14,40 @@ abbrev μ-loop : tie.MeasureT-loop
 μ-loop word work₀ n from₀ count₀ work from count = n - from
 
 -- after a failing test: p and r, and that the step stays inside
-fails-at : (c : tie.After-known-told Inv-loop μ-loop) → Fails (drop (c .before .before .before .before .before .before .before .before .before .loop .from) (c .before .before .before .before .before .before .before .before .before .before .before .before .args .word .now)) (c .before .found .given .0 .1 .0) (c .before .found .given .0 .1 .1 .0)
-fails-at c = found (c .before .before .before .before .before .before .before .before .before .before .before .before .args .word .now) (c .before .before .before .before .before .before .before .before .before .before .before .before .args .work .now) (c .before .before .before .before .before .before .before .before .before .loop .work) (c .before .before .before .before .before .extension-of .last .1 .0) _ (c .before .before .before .before .before .before .before .before .before .loop .from) (c .before .before .before .before .before .before .before .before .before .loop .count) (c .before .before .before .before .before .before .before .before .before .loop .inv) _ (c .before .before .before .before .before .extension-of .ensures) _ _ _ (c .before .found .given .1)
+fails-at : (c : tie.After-known-told Inv-loop μ-loop)
+    → (let turn = c .before .before .before .before .before .before .before .before .before in
+    let x = turn .before .before .before in
+    Fails (drop (turn .loop .from) (x .args .word .now)) (c .before .found .given .0 .1 .0) (c .before .found .given .0 .1 .1 .0))
+fails-at c =
+    let at-extension-of = c .before .before .before .before .before in
+    let turn = at-extension-of .before .before .before .before in
+    let x = turn .before .before .before in
+    found (x .args .word .now) (x .args .work .now) (turn .loop .work) (at-extension-of .extension-of .last .1 .0) _ (turn .loop .from) (turn .loop .count)
+    (turn .loop .inv) _ (at-extension-of .extension-of .ensures) _ _ _ (c .before .found .given .1)
 
 inside-at : (c : tie.After-known-told Inv-loop μ-loop)
-    → c .before .before .before .before .before .before .before .before .before .loop .from + c .before .found .given .0 .1 .0 + c .before .found .given .0 .1 .1 .0 < length (c .before .before .before .before .before .before .before .before .before .before .before .before .args .word .now)
-inside-at c = step-inside (c .before .before .before .before .before .before .before .before .before .before .before .before .args .word .now) (c .before .before .before .before .before .before .before .before .before .before .before .before .args .work .now) (c .before .before .before .before .before .before .before .before .before .loop .work) (c .before .before .before .before .before .extension-of .last .1 .0) _ (c .before .before .before .before .before .before .before .before .before .loop .from) (c .before .before .before .before .before .before .before .before .before .loop .count) (c .before .before .before .before .before .before .before .before .before .loop .inv) _ (c .before .before .before .before .before .extension-of .ensures) _ _ _ (c .before .found .given .1)
+    → (let turn = c .before .before .before .before .before .before .before .before .before in
+    let x = turn .before .before .before in
+    turn .loop .from + c .before .found .given .0 .1 .0 + c .before .found .given .0 .1 .1 .0 < length (x .args .word .now))
+inside-at c =
+    let at-extension-of = c .before .before .before .before .before in
+    let turn = at-extension-of .before .before .before .before in
+    let x = turn .before .before .before in
+    step-inside (x .args .word .now) (x .args .work .now) (turn .loop .work) (at-extension-of .extension-of .last .1 .0) _ (turn .loop .from) (turn .loop .count)
+    (turn .loop .inv) _ (at-extension-of .extension-of .ensures) _ _ _ (c .before .found .given .1)
 
 -- both entries of the break lie inside the buffer
 entry-at : (c : tie.After-known-told Inv-loop μ-loop)
-    → length (c .before .before .before .before .before .before .before .before .before .before .before .before .args .word .now) + 2 * c .before .before .before .before .before .before .before .before .before .loop .count + 1 < length (c .before .before .before .before .before .extension-of .last .1 .0)
+    → (let at-extension-of = c .before .before .before .before .before in
+    let turn = at-extension-of .before .before .before .before in
+    let x = turn .before .before .before in
+    length (x .args .word .now) + 2 * turn .loop .count + 1 < length (at-extension-of .extension-of .last .1 .0))
 entry-at c =
-    let inv = c .before .before .before .before .before .before .before .before .before .loop .inv in
-    omega (arith, inv .few, inv .inside, inv .long, c .before .before .before .before .before .extension-of .kept, c .before .before .before .before .before .before .before .before .before .before .before .before .pre .entries)
+    let at-extension-of = c .before .before .before .before .before in
+    let turn = at-extension-of .before .before .before .before in
+    let x = turn .before .before .before in
+    let inv = turn .loop .inv in
+    omega (arith, inv .few, inv .inside, inv .long, at-extension-of .extension-of .kept, x .pre .entries)
 
 loop-holds : tie.Need-loop-holds Inv-loop μ-loop
 loop-holds c = find-starts _ _ (c .before .before .pre)
@@ -59,13 +80,22 @@ cast-work : tie.Need-cast-work Inv-loop μ-loop
 cast-work c = omega (arith, inside-at c, c .before .before .before .before .before .before .before .before .before .before .before .before .pre .short)
 
 mul-work : tie.Need-mul-work Inv-loop μ-loop
-mul-work c = omega (arith, c .before .before .before .before .before .before .before .before .before .loop .inv .few, c .before .before .before .before .before .before .before .before .before .loop .inv .inside, c .before .before .before .before .before .before .before .before .before .before .before .before .pre .short)
+mul-work c =
+    let turn = c .before .before .before .before .before .before .before .before .before in
+    let x = turn .before .before .before in
+    omega (arith, turn .loop .inv .few, turn .loop .inv .inside, x .pre .short)
 
 add-work : tie.Need-add-work Inv-loop μ-loop
-add-work c = omega (arith, c .before .before .before .before .before .before .before .before .before .loop .inv .few, c .before .before .before .before .before .before .before .before .before .loop .inv .inside, c .before .before .before .before .before .before .before .before .before .loop .inv .size, c .before .before .before .before .before .before .before .before .before .before .before .before .pre .short)
+add-work c =
+    let turn = c .before .before .before .before .before .before .before .before .before in
+    let x = turn .before .before .before in
+    omega (arith, turn .loop .inv .few, turn .loop .inv .inside, turn .loop .inv .size, x .pre .short)
 
 mul-work-2 : tie.Need-mul-work-2 Inv-loop μ-loop
-mul-work-2 c = omega (arith, c .before .before .before .before .before .before .before .before .before .loop .inv .few, c .before .before .before .before .before .before .before .before .before .loop .inv .inside, c .before .before .before .before .before .before .before .before .before .loop .inv .size, c .before .before .before .before .before .before .before .before .before .before .before .before .pre .short)
+mul-work-2 c =
+    let turn = c .before .before .before .before .before .before .before .before .before in
+    let x = turn .before .before .before in
+    omega (arith, turn .loop .inv .few, turn .loop .inv .inside, turn .loop .inv .size, x .pre .short)
 
 slice-write-work : tie.Need-slice-write-work Inv-loop μ-loop
 slice-write-work c = omega (arith, entry-at c)
@@ -74,31 +104,49 @@ cast-work-2 : tie.Need-cast-work-2 Inv-loop μ-loop
 cast-work-2 c = omega (arith, inside-at c, c .before .before .before .before .before .before .before .before .before .before .before .before .pre .short)
 
 mul-work-3 : tie.Need-mul-work-3 Inv-loop μ-loop
-mul-work-3 c = omega (arith, c .before .before .before .before .before .before .before .before .before .loop .inv .few, c .before .before .before .before .before .before .before .before .before .loop .inv .inside, c .before .before .before .before .before .before .before .before .before .before .before .before .pre .short)
+mul-work-3 c =
+    let turn = c .before .before .before .before .before .before .before .before .before in
+    let x = turn .before .before .before in
+    omega (arith, turn .loop .inv .few, turn .loop .inv .inside, x .pre .short)
 
 add-work-2 : tie.Need-add-work-2 Inv-loop μ-loop
-add-work-2 c = omega (arith, c .before .before .before .before .before .before .before .before .before .loop .inv .few, c .before .before .before .before .before .before .before .before .before .loop .inv .inside, c .before .before .before .before .before .before .before .before .before .loop .inv .size, c .before .before .before .before .before .before .before .before .before .before .before .before .pre .short)
+add-work-2 c =
+    let turn = c .before .before .before .before .before .before .before .before .before in
+    let x = turn .before .before .before in
+    omega (arith, turn .loop .inv .few, turn .loop .inv .inside, turn .loop .inv .size, x .pre .short)
 
 add-work-3 : tie.Need-add-work-3 Inv-loop μ-loop
-add-work-3 c = omega (arith, c .before .before .before .before .before .before .before .before .before .loop .inv .few, c .before .before .before .before .before .before .before .before .before .loop .inv .inside, c .before .before .before .before .before .before .before .before .before .loop .inv .size, c .before .before .before .before .before .before .before .before .before .before .before .before .pre .short)
+add-work-3 c =
+    let turn = c .before .before .before .before .before .before .before .before .before in
+    let x = turn .before .before .before in
+    omega (arith, turn .loop .inv .few, turn .loop .inv .inside, turn .loop .inv .size, x .pre .short)
 
 mul-work-4 : tie.Need-mul-work-4 Inv-loop μ-loop
-mul-work-4 c = omega (arith, c .before .before .before .before .before .before .before .before .before .loop .inv .few, c .before .before .before .before .before .before .before .before .before .loop .inv .inside, c .before .before .before .before .before .before .before .before .before .loop .inv .size, c .before .before .before .before .before .before .before .before .before .before .before .before .pre .short)
+mul-work-4 c =
+    let turn = c .before .before .before .before .before .before .before .before .before in
+    let x = turn .before .before .before in
+    omega (arith, turn .loop .inv .few, turn .loop .inv .inside, turn .loop .inv .size, x .pre .short)
 
 slice-write-work-2 : tie.Need-slice-write-work-2 Inv-loop μ-loop
 slice-write-work-2 c = simp length-set (omega (arith, entry-at c))
 
 add-count : tie.Need-add-count Inv-loop μ-loop
-add-count c = omega (arith, c .before .before .before .before .before .before .before .before .before .loop .inv .few, c .before .before .before .before .before .before .before .before .before .loop .inv .inside, c .before .before .before .before .before .before .before .before .before .before .before .before .pre .short)
+add-count c =
+    let turn = c .before .before .before .before .before .before .before .before .before in
+    let x = turn .before .before .before in
+    omega (arith, turn .loop .inv .few, turn .loop .inv .inside, x .pre .short)
 
 loop-less : tie.Need-loop-less Inv-loop μ-loop
 loop-less c = omega (arith, fails-at c .positive, inside-at c, c .before .before .before .before .before .before .before .before .before .loop .inv .size)
 
 loop-again : tie.Need-loop-again Inv-loop μ-loop
 loop-again c =
-    find-on (c .before .before .before .before .before .before .before .before .before .before .before .before .args .word .now) (c .before .before .before .before .before .before .before .before .before .before .before .before .args .work .now) (c .before .before .before .before .before .before .before .before .before .loop .work) (c .before .before .before .before .before .extension-of .last .1 .0) _ (c .before .before .before .before .before .before .before .before .before .loop .from)
-    (c .before .before .before .before .before .before .before .before .before .loop .count) (c .before .before .before .before .before .before .before .before .before .loop .inv) _ (c .before .before .before .before .before .extension-of .ensures) _ _ _ (c .before .found .given .1)
-    (omega (arith, c .before .before .before .before .before .before .before .before .before .loop .inv .long, c .before .before .before .before .before .extension-of .kept, c .before .before .before .before .before .before .before .before .before .before .before .before .pre .entries)) (c .before .before .before .before .before .extension-of .kept .1 .0)
+    let at-extension-of = c .before .before .before .before .before in
+    let turn = at-extension-of .before .before .before .before in
+    let x = turn .before .before .before in
+    find-on (x .args .word .now) (x .args .work .now) (turn .loop .work) (at-extension-of .extension-of .last .1 .0) _ (turn .loop .from)
+    (turn .loop .count) (turn .loop .inv) _ (at-extension-of .extension-of .ensures) _ _ _ (c .before .found .given .1)
+    (omega (arith, turn .loop .inv .long, at-extension-of .extension-of .kept, x .pre .entries)) (at-extension-of .extension-of .kept .1 .0)
 
 same-length-2 : tie.Need-same-length-2 Inv-loop μ-loop
 same-length-2 c = search needs

@@ -38,7 +38,11 @@ part-join-breaks-end : tie.Need-part-join-breaks-end
 part-join-breaks-end c = search needs
 
 join-breaks-requires : tie.Need-join-breaks-requires
-join-breaks-requires c κs = stacked (c .before .before .before .before .before .before .before .args .word .now) (c .before .before .before .before .before .before .before .args .work .now) (c .before .before .before .find-breaks .last .1 .0) _ (c .before .before .before .before .before .before .before .pre) (c .before .before .before .find-breaks .ensures) (c .before .before .before .find-breaks .kept .1 .0)
+join-breaks-requires c κs =
+    let at-find-breaks = c .before .before .before in
+    let x = at-find-breaks .before .before .before .before in
+    stacked (x .args .word .now) (x .args .work .now) (at-find-breaks .find-breaks .last .1 .0) _ (x .pre) (at-find-breaks .find-breaks .ensures)
+    (at-find-breaks .find-breaks .kept .1 .0)
 
 add-t10 : tie.Need-add-t10
 add-t10 c = search needs
@@ -54,13 +58,17 @@ sub-t16 c = search needs
 
 same-length : tie.Need-same-length
 same-length c =
-    long-kept (c .before .before .before .before .before .before .before .before .before .before .args .word .now) (c .before .before .before .before .before .before .before .before .before .before .args .work .now) (c .before .before .before .before .before .before .find-breaks .last .1 .0) _ (c .before .before .before .before .before .before .before .before .before .before .pre) (c .before .before .before .before .before .before .find-breaks .ensures)
-    (c .before .before .before .before .before .before .find-breaks .kept .1 .0) _ (c .before .before .join-breaks .last .0) (c .before .before .join-breaks .ensures) (c .before .before .join-breaks .kept .0)
+    let at-find-breaks = c .before .before .before .before .before .before in
+    let x = at-find-breaks .before .before .before .before in
+    long-kept (x .args .word .now) (x .args .work .now) (at-find-breaks .find-breaks .last .1 .0) _ (x .pre) (at-find-breaks .find-breaks .ensures)
+    (at-find-breaks .find-breaks .kept .1 .0) _ (c .before .before .join-breaks .last .0) (c .before .before .join-breaks .ensures) (c .before .before .join-breaks .kept .0)
 
 returns : tie.Need-returns
 returns c =
-    ends-found (c .before .before .before .before .before .before .before .before .before .before .args .word .now) (c .before .before .before .before .before .before .before .before .before .before .args .work .now) (c .before .before .before .before .before .before .find-breaks .last .1 .0) _ (c .before .before .before .before .before .before .before .before .before .before .pre) (c .before .before .before .before .before .before .find-breaks .ensures)
-    (c .before .before .before .before .before .before .find-breaks .kept .1 .0) _ (c .before .before .join-breaks .last .0) (c .before .before .join-breaks .ensures) (c .before .before .join-breaks .kept .0)
+    let at-find-breaks = c .before .before .before .before .before .before in
+    let x = at-find-breaks .before .before .before .before in
+    ends-found (x .args .word .now) (x .args .work .now) (at-find-breaks .find-breaks .last .1 .0) _ (x .pre) (at-find-breaks .find-breaks .ensures)
+    (at-find-breaks .find-breaks .kept .1 .0) _ (c .before .before .join-breaks .last .0) (c .before .before .join-breaks .ensures) (c .before .before .join-breaks .kept .0)
 
 pub find-ends-spec : {M : Type 1} → statement M
 find-ends-spec =

@@ -16,10 +16,14 @@ use Rattle.icfl.proofs.icfl.Tie as tie
 passed-at : (c : tie.After-enum-told) → recordRefusal (c .before .before .before .before .before .before .args .word .now) ≡ 0
 passed-at c = passed _ _ (c .before .before .check-record .ensures) (c .before .match .keys1)
 
-spacious-at : (c : tie.After-enum-told3) → workRefusal (length (c .before .before .before .before .before .before .before .before .before .args .work .now)) (3 * length (c .before .before .before .before .before .before .before .before .before .args .word .now)) ≡ 0
+spacious-at : (c : tie.After-enum-told3)
+    → (let x = c .before .before .before .before .before .before .before .before .before in
+    workRefusal (length (x .args .work .now)) (3 * length (x .args .word .now)) ≡ 0)
 spacious-at c = passed _ _ (c .before .before .check-work .ensures) (c .before .match2 .keys1)
 
-roomy-at : (c : tie.After-enum-told3) → Roomy (c .before .before .before .before .before .before .before .before .before .args .word .now) (c .before .before .before .before .before .before .before .before .before .args .work .now)
+roomy-at : (c : tie.After-enum-told3)
+    → (let x = c .before .before .before .before .before .before .before .before .before in
+    Roomy (x .args .word .now) (x .args .work .now))
 roomy-at c = roomy _ _ (c .before .before .before .before .before .before .before .before .before .args .ends .now) (passed-at (c .before .before .before)) (spacious-at c)
 
 -- the ends that are found lie in the work buffer
@@ -60,8 +64,10 @@ number-requires-2 c κs = search needs
 
 returns-2 : tie.Need-returns-2
 returns-2 c =
-    let call = c .before .before .before .check-work in
-    work-refused _ _ _ (passed-at (c .before .before .before .before)) _ (number-is _ _ _ (call .ensures) (c .number2 .ensures)) (refused _ _ (call .ensures) (c .before .before .match2 .keys2))
+    let at-check-work = c .before .before .before in
+    let c4 = at-check-work .before in
+    let call = at-check-work .check-work in
+    work-refused _ _ _ (passed-at c4) _ (number-is _ _ _ (call .ensures) (c .number2 .ensures)) (refused _ _ (call .ensures) (c .before .before .match2 .keys2))
 
 find-ends-requires : tie.Need-find-ends-requires
 find-ends-requires c κs = roomy-at (c .before)
@@ -76,7 +82,10 @@ enum-told-6 : tie.Need-enum-told-6
 enum-told-6 c = search needs
 
 clear-requires : tie.Need-clear-requires
-clear-requires c κs = omega (arith, c .before .before .before .before .before .before .find-ends .kept, roomy-at (c .before .before .before .before .before .before .before .before) .entries)
+clear-requires c κs =
+    let at-find-ends = c .before .before .before .before .before .before in
+    let c8 = at-find-ends .before .before in
+    omega (arith, at-find-ends .find-ends .kept, roomy-at c8 .entries)
 
 number-requires-3 : tie.Need-number-requires-3
 number-requires-3 c κs = search needs
@@ -86,10 +95,18 @@ same-length c = search needs
 
 returns-3 : tie.Need-returns-3
 returns-3 c =
-    let call = c .before .before .before .before .before .before .before .check-result in
-    let found = c .before .before .before .before .before .before .before .before .before .before .find-ends in
-    result-refused (c .before .before .before .before .before .before .before .before .before .before .before .before .before .before .before .before .before .before .before .before .before .args .word .now) (c .before .before .before .before .before .before .before .before .before .before .before .before .before .before .before .before .before .before .before .before .before .args .work .now) (c .before .before .before .before .before .before .before .before .before .before .before .before .before .before .before .before .before .before .before .before .before .args .ends .now) (passed-at (c .before .before .before .before .before .before .before .before .before .before .before .before .before .before .before)) (spacious-at (c .before .before .before .before .before .before .before .before .before .before .before .before)) _ _ _ (found .ensures) (c .before .before .before .clear .ensures) _
-    (number-is _ _ _ (call .ensures) (c .number3 .ensures)) (refused _ _ (call .ensures) (c .before .before .before .before .before .before .match3 .keys2))
+    let at-clear = c .before .before .before in
+    let c6 = at-clear .before .before .before in
+    let at-check-result = c6 .before in
+    let at-find-ends = at-check-result .before .before .before in
+    let c12 = at-find-ends .before .before in
+    let c15 = c12 .before .before .before in
+    let x = c15 .before .before .before .before .before .before in
+    let call = at-check-result .check-result in
+    let found = at-find-ends .find-ends in
+    result-refused (x .args .word .now) (x .args .work .now) (x .args .ends .now) (passed-at c15) (spacious-at c12) _ _ _ (found .ensures)
+    (at-clear .clear .ensures) _
+    (number-is _ _ _ (call .ensures) (c .number3 .ensures)) (refused _ _ (call .ensures) (c6 .match3 .keys2))
 
 add-copy : tie.Need-add-copy
 add-copy c = omega (arith, c .before .before .before .before .before .find-ends .ensures .inside, roomy-at (c .before .before .before .before .before .before .before) .short)
@@ -112,7 +129,10 @@ copy-requires c κs =
     simp (length-take, length-drop) (omega (arith, room))
 
 clear-requires-2 : tie.Need-clear-requires-2
-clear-requires-2 c κs = omega (arith, c .before .before .before .before .before .before .before .before .before .before .before .before .find-ends .kept, roomy-at (c .before .before .before .before .before .before .before .before .before .before .before .before .before .before) .entries)
+clear-requires-2 c κs =
+    let at-find-ends = c .before .before .before .before .before .before .before .before .before .before .before .before in
+    let c14 = at-find-ends .before .before in
+    omega (arith, at-find-ends .find-ends .kept, roomy-at c14 .entries)
 
 same-length-2 : tie.Need-same-length-2
 same-length-2 c = search needs
@@ -122,8 +142,16 @@ same-length-3 c = search needs
 
 returns-4 : tie.Need-returns-4
 returns-4 c =
-    ends-written (c .before .before .before .before .before .before .before .before .before .before .before .before .before .before .before .before .before .before .before .before .before .before .before .before .before .before .args .word .now) (c .before .before .before .before .before .before .before .before .before .before .before .before .before .before .before .before .before .before .before .before .before .before .before .before .before .before .args .work .now) (c .before .before .before .before .before .before .before .before .before .before .before .before .before .before .before .before .before .before .before .before .before .before .before .before .before .before .args .ends .now) (passed-at (c .before .before .before .before .before .before .before .before .before .before .before .before .before .before .before .before .before .before .before .before)) (spacious-at (c .before .before .before .before .before .before .before .before .before .before .before .before .before .before .before .before .before)) (c .before .before .before .before .before .before .before .before .before .before .before .before .before .before .before .find-ends .result) _ _ (c .before .before .before .before .before .before .before .before .before .before .before .before .before .before .before .find-ends .ensures) (c .before .before .clear2 .ensures) _
-    (passed _ _ (c .before .before .before .before .before .before .before .before .before .before .before .before .check-result .ensures) (c .before .before .before .before .before .before .before .before .before .before .before .match3 .keys1)) (c .before .before .before .before .before .before .copy .ensures)
+    let at-copy = c .before .before .before .before .before .before in
+    let c11 = at-copy .before .before .before .before .before in
+    let at-check-result = c11 .before in
+    let at-find-ends = at-check-result .before .before .before in
+    let c17 = at-find-ends .before .before in
+    let c20 = c17 .before .before .before in
+    let x = c20 .before .before .before .before .before .before in
+    ends-written (x .args .word .now) (x .args .work .now) (x .args .ends .now) (passed-at c20) (spacious-at c17) (at-find-ends .find-ends .result)
+    _ _ (at-find-ends .find-ends .ensures) (c .before .before .clear2 .ensures) _
+    (passed _ _ (at-check-result .check-result .ensures) (c11 .match3 .keys1)) (at-copy .copy .ensures)
 
 pub icfl-spec : {M : Type 1} → statement M
 icfl-spec =

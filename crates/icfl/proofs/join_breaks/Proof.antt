@@ -15,7 +15,13 @@ abbrev μ-loop : tie.MeasureT-loop
 
 -- both entries of a break lie below the top, so inside
 high-at : (c : tie.In-loop Inv-loop μ-loop) → 2 * (c .before .loop .k - 1) + 1 < length (c .before .loop .stack)
-high-at c = omega (arith, top-inside (c .before .before .args .stack .now) (c .before .loop .stack) _ _ _ (c .before .before .pre) (c .before .loop .inv) (c .loop-test .taken), c .before .loop .inv .low, c .loop-test .taken)
+high-at c =
+    omega (
+      arith,
+      top-inside (c .before .before .args .stack .now) (c .before .loop .stack) _ _ _ (c .before .before .pre) (c .before .loop .inv) (c .loop-test .taken),
+      c .before .loop .inv .low,
+      c .loop-test .taken,
+    )
 
 low-at : (c : tie.In-loop Inv-loop μ-loop) → 2 * (c .before .loop .k - 1) < length (c .before .loop .stack)
 low-at c = omega (arith, high-at c)
@@ -60,13 +66,19 @@ mul-first : tie.Need-mul-first Inv-loop μ-loop
 mul-first c = omega (arith, c .before .before .before .loop .inv .high, c .before .before .before .before .pre .short)
 
 slice-read-first : tie.Need-slice-read-first Inv-loop μ-loop
-slice-read-first c = top-inside _ _ _ _ _ (c .before .before .before .before .before .pre) (c .before .before .before .before .loop .inv) (c .before .before .before .loop-test .taken)
+slice-read-first c =
+    let turn = c .before .before .before in
+    let turn′ = turn .before in
+    let x = turn′ .before in
+    top-inside _ _ _ _ _ (x .pre) (turn′ .loop .inv) (turn .loop-test .taken)
 
 cast-first : tie.Need-cast-first Inv-loop μ-loop
 cast-first c = omega (arith, c .slice-known3 .given (c .before .before .before .before .loop .top) .fits)
 
 add-if1 : tie.Need-add-if1 Inv-loop μ-loop
-add-if1 c = omega (arith, c .before .before .slice-known .given (2 * (c .before .before .before .before .loop .k - 1)) .fits, c .before .slice-known2 .given (2 * (c .before .before .before .before .loop .k - 1) + 1) .fits)
+add-if1 c =
+    let turn = c .before .before .before .before in
+    omega (arith, c .before .before .slice-known .given (2 * (turn .loop .k - 1)) .fits, c .before .slice-known2 .given (2 * (turn .loop .k - 1) + 1) .fits)
 
 sub-top : tie.Need-sub-top Inv-loop μ-loop
 sub-top c = omega (arith, c .before .before .before .before .before .loop .inv .low, c .before .before .before .before .loop-test .taken)
@@ -78,19 +90,31 @@ mul-stack : tie.Need-mul-stack Inv-loop μ-loop
 mul-stack c = omega (arith, c .before .before .before .before .before .loop .inv .high, c .before .before .before .before .before .before .pre .short)
 
 slice-write-stack : tie.Need-slice-write-stack Inv-loop μ-loop
-slice-write-stack c = omega (arith, top-inside _ _ _ _ _ (c .before .before .before .before .before .before .pre) (c .before .before .before .before .before .loop .inv) (c .before .before .before .before .loop-test .taken))
+slice-write-stack c =
+    let turn = c .before .before .before .before in
+    let turn′ = turn .before in
+    let x = turn′ .before in
+    omega (arith, top-inside _ _ _ _ _ (x .pre) (turn′ .loop .inv) (turn .loop-test .taken))
 
 loop-less : tie.Need-loop-less Inv-loop μ-loop
 loop-less c = search needs
 
 loop-again : tie.Need-loop-again Inv-loop μ-loop
-loop-again c = kept-on (c .before .before .before .before .before .before .args .stack .now) (c .before .before .before .before .before .loop .stack) _ _ _ (c .before .before .before .before .before .before .pre) (c .before .before .before .before .before .loop .inv) (c .before .before .before .before .loop-test .taken) (c .if1 .taken)
+loop-again c =
+    let turn = c .before .before .before .before in
+    let turn′ = turn .before in
+    let x = turn′ .before in
+    kept-on (x .args .stack .now) (turn′ .loop .stack) _ _ _ (x .pre) (turn′ .loop .inv) (turn .loop-test .taken) (c .if1 .taken)
 
 loop-less-2 : tie.Need-loop-less-2 Inv-loop μ-loop
 loop-less-2 c = search needs
 
 loop-again-2 : tie.Need-loop-again-2 Inv-loop μ-loop
-loop-again-2 c = joined-on (c .before .before .before .before .before .before .args .stack .now) (c .before .before .before .before .before .loop .stack) _ _ _ (c .before .before .before .before .before .before .pre) (c .before .before .before .before .before .loop .inv) (c .before .before .before .before .loop-test .taken) (c .if1 .left)
+loop-again-2 c =
+    let turn = c .before .before .before .before in
+    let turn′ = turn .before in
+    let x = turn′ .before in
+    joined-on (x .args .stack .now) (turn′ .loop .stack) _ _ _ (x .pre) (turn′ .loop .inv) (turn .loop-test .taken) (c .if1 .left)
 
 same-length : tie.Need-same-length Inv-loop μ-loop
 same-length c = c .before .loop .inv .long

@@ -34,8 +34,10 @@ loop-less c = step-nearer _ (c .before .before .before .before .before .before .
 
 loop-again : tie.Need-loop-again Inv-loop μ-loop
 loop-again c =
-    let at = c .before .before .before .before .before .before in
-    step-scanned (at .before .before .args .word .now) (at .loop .s) (c .step .result) (at .loop .inv) (c .before .before .before .before .if1 .taken) (c .before .if2 .left) (c .step .ensures)
+    let c4 = c .before .before .before .before in
+    let c6 = c4 .before .before in
+    let at = c6 in
+    step-scanned (at .before .before .args .word .now) (at .loop .s) (c .step .result) (at .loop .inv) (c4 .if1 .taken) (c .before .if2 .left) (c .step .ensures)
 
 returns-2 : tie.Need-returns-2 Inv-loop μ-loop
 returns-2 c = record { scanned = c .before .before .loop .inv; stops = λ l. absurd (omega arith) }
