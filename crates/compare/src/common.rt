@@ -3,7 +3,8 @@ ghost use mathlib.Core.Path.{_≡_};
 ghost use Prim.Native.Nat.{min};
 ghost use Rattle.compare.specs.Compare.{commonLength};
 
-fn shorter(m: usize, n: usize) -> usize
+/// The smaller of two lengths.
+pub fn shorter(m: usize, n: usize) -> usize
     ensures { λ r. ⌜ r ≡ min m n ⌝ }
 {
     if m < n { m } else { n }

@@ -4,6 +4,7 @@ mod sign; // inverse_sign: the sign of two words
 mod suffixes; // compare_suffixes: the call, with its refusals
 
 pub use common::common_length;
+pub use common::shorter;
 pub use sign::inverse_sign;
 pub use suffixes::Comparison;
 pub use suffixes::compare_suffixes;
