@@ -1,4 +1,5 @@
--- What a check's case tells of its number (passed, refused), and what passed lines tell of their arguments (record-accepted and so on).
+-- What a check's case tells of its number (passed, refused), what passed lines tell of their arguments (record-accepted and so on), and which arguments pass
+-- (record-passes and so on).
 use mathlib.Core.Path.{_≡_, refl, ap, _∙_}
 use mathlib.Core.Bool.{Bool, true, false, _||_}
 use mathlib.Core.List.{List, [], _∷_, _++_}
@@ -7,6 +8,7 @@ use native.Mathlib.Omega.{arith}
 use lib.ListN.{length, drop}
 use lib.Dec.{ltb, eqb}
 use types.Run.{OneOf}
+use borrow.Author.Tests.{ne-eqb, le-ltb, lt-leb}
 use denote.Enum.Declared.{tagOf}
 use Rattle.words.specs.Decisions.{Decides, holds, fails, leb-test, eqb-test}
 use Rattle.checks.proofs.Checked.{the-type}
@@ -105,6 +107,20 @@ start-accepted first end start e =
 pub number-accepted : (number count : ℕ) → numberRefusal number count ≡ 0 → number < count
 unfolding numberRefusal
 number-accepted number count e = let n = one (leb-test count number) {number = 8} (omega arith) e in omega arith
+
+-- ---- lines that pass
+
+pub record-passes : (w : List ℕ) → 0 < length w → length w ≤ 4096 → recordRefusal w ≡ 0
+unfolding recordRefusal
+record-passes w p l = rw (ne-eqb (length w) 0 (λ z. omega arith), le-ltb 4096 (length w) l)
+
+pub range-passes : (n first end : ℕ) → first < end → end ≤ n → rangeRefusal n first end ≡ 0
+unfolding rangeRefusal
+range-passes n first end p l = rw (lt-leb end first p, le-ltb n end l)
+
+pub start-passes : (first end start : ℕ) → first ≤ start → start < end → startRefusal first end start ≡ 0
+unfolding startRefusal
+start-passes first end start p l = rw (le-ltb start first p, lt-leb end start l)
 
 -- ---- which number a line gives
 

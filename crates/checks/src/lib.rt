@@ -1,7 +1,7 @@
 //! Paper 01's table of refusals, a function for each place of a check. A call tries its lines in the table's order and passes a
 //! refusal up with its number unchanged.
 ghost use mathlib.Core.Path.{_≡_};
-ghost use Rattle.checks.specs.Refusals.{recordRefusal, workRefusal, resultRefusal, rangeRefusal, startRefusal, endsRefusal, numberRefusal};
+ghost use Rattle.checks.specs.Refusals.{recordRefusal, workRefusal, resultRefusal, rangeRefusal, endsRefusal, numberRefusal};
 ghost use Rattle.checks.specs.Answers.{checkedAs, numberOf};
 
 /// The most letters that a record may have.
@@ -74,19 +74,6 @@ pub fn check_range(length: usize, first: usize, end: usize) -> Checked
     }
     if length < end {
         return Checked::Refused(5);
-    }
-    Checked::Passed
-}
-
-/// Line 6, for one start in the range from `first` to `end`.
-pub fn check_start(first: usize, end: usize, start: usize) -> Checked
-    ensures { λ r. ⌜ r ≡ checkedAs (startRefusal first end start) ⌝ }
-{
-    if start < first {
-        return Checked::Refused(6);
-    }
-    if end <= start {
-        return Checked::Refused(6);
     }
     Checked::Passed
 }

@@ -11,14 +11,9 @@ use Rattle.words.specs.PrefixLaws.{⊑-letters, ⊑-whole}
 use Rattle.words.specs.MismatchLaws.{≪-letters, Tri, lt, eq, gt, tri}
 use Rattle.words.specs.Decisions.{Decides, holds, fails, eqb-test}
 use Rattle.compare.specs.Compare.{commonLength}
+use Rattle.compare.specs.Steps.{Matched}
 
--- the first l letters are equal
-pub record Matched (x y : List ℕ) (l : ℕ) : Type 0 where
-  pub left : l ≤ length x
-  pub right : l ≤ length y
-  pub equal : (t : ℕ) → t < l → getD x t 0 ≡ getD y t 0
-
--- and no more of them
+-- the first l letters are equal, and no more of them
 pub record Agree (x y : List ℕ) (l : ℕ) : Type 0 where
   pub matched : Matched x y l
   pub differ : l < length x → l < length y → ¬ (getD x l 0 ≡ getD y l 0)
@@ -73,25 +68,22 @@ agree-unique x y l g = go (common-agree x y)
 -- ---- the orders
 
 module _ {x y : List ℕ} {l : ℕ} (g : Agree x y l) where
-  pub agree-⊑ : l ≡ length x → x ⊑ y
+  -- x ends first, or both end
+  agree-⊑ : length x ≤ l → x ⊑ y
   agree-⊑ e = ⊑-letters x y (omega (arith, g .matched .right)) (λ t h. g .matched .equal t (omega arith))
 
-  pub agree-same : l ≡ length x → l ≡ length y → x ≡ y
-  agree-same e d = ⊑-whole (agree-⊑ e) (omega arith)
+  pub agree-same : length x ≤ l → length y ≤ length x → x ≡ y
+  agree-same e d = ⊑-whole (agree-⊑ e) (omega (arith, g .matched .right))
 
-  -- x ends first
-  pub agree-shorter : l ≡ length x → ¬ (l ≡ length y) → x ≺ y
-  agree-shorter e n = prefix (proper (agree-⊑ e) (omega (arith, g .matched .right)))
+  pub agree-shorter : length x ≤ l → length x < length y → x ≺ y
+  agree-shorter e h = prefix (proper (agree-⊑ e) h)
 
-  pub agree-inside : ¬ (l ≡ length x) → ¬ (l ≡ length y) → (l < length x) × (l < length y)
-  agree-inside m n = (omega (arith, g .matched .left), omega (arith, g .matched .right))
+  -- the letters differ
+  pub agree-≪ : l < length x → l < length y → getD x l 0 < getD y l 0 → x ≪ y
+  agree-≪ m n h = ≪-letters l x y m n (g .matched .equal) h
 
-  pub agree-≪ : ¬ (l ≡ length x) → ¬ (l ≡ length y) → getD x l 0 < getD y l 0 → x ≪ y
-  agree-≪ m n h = let b = agree-inside m n in ≪-letters l x y (b .0) (b .1) (g .matched .equal) h
-
-  -- a letter that is not smaller is larger, since they differ
-  pub agree-≪-sym : ¬ (l ≡ length x) → ¬ (l ≡ length y) → getD y l 0 ≤ getD x l 0 → y ≪ x
+  -- a letter that is not smaller is larger
+  pub agree-≪-sym : l < length x → l < length y → getD y l 0 ≤ getD x l 0 → y ≪ x
   agree-≪-sym m n h =
-      let b = agree-inside m n in
-      let d = g .differ (b .0) (b .1) in
-      ≪-letters l y x (b .1) (b .0) (λ t k. sym (g .matched .equal t k)) (omega arith)
+      let d = g .differ m n in
+      ≪-letters l y x n m (λ t k. sym (g .matched .equal t k)) (omega arith)

@@ -1,3 +1,4 @@
 pub mod CommonLength
+pub mod FourLaws
 pub mod InverseSignLaws
 pub mod ComparisonLaws

@@ -1,7 +1,8 @@
 //! How far two words agree.
 ghost use mathlib.Core.Path.{_≡_};
-ghost use Prim.Native.Nat.{min};
+ghost use Prim.Native.Nat.{_+_, min};
 ghost use Rattle.compare.specs.Compare.{commonLength};
+ghost use Rattle.compare.specs.Steps.{BothHave, Matched, FourMore};
 
 /// The smaller of two lengths.
 pub fn shorter(m: usize, n: usize) -> usize
@@ -10,12 +11,38 @@ pub fn shorter(m: usize, n: usize) -> usize
     if m < n { m } else { n }
 }
 
+// Whether the four bytes from l on agree. Their differences are joined, and the compiler makes one comparison of the four. Promised is only what
+// the caller leans on: a wrong false would cost time, and nothing else.
+fn four_agree(x: &[u8], y: &[u8], l: usize) -> bool
+    requires { ⌜ BothHave (now x) (now y) (l + 4) ⌝ }
+    ensures { λ r. ⌜ FourMore (now (x .entry)) (now (y .entry)) l r ⌝ }
+{
+    let near = (x[l] ^ y[l]) | (x[l + 1] ^ y[l + 1]);
+    let far = (x[l + 2] ^ y[l + 2]) | (x[l + 3] ^ y[l + 3]);
+    near | far == 0
+}
+
+// Goes over leading bytes that agree, four in a step.
+fn skip_fours(x: &[u8], y: &[u8]) -> usize
+    ensures { λ r. ⌜ Matched (now (x .entry)) (now (y .entry)) r ⌝ }
+{
+    let most = shorter(x.len(), y.len());
+    let mut l: usize = 0;
+    while 4 <= most - l {
+        if !four_agree(x, y, l) {
+            return l;
+        }
+        l += 4;
+    }
+    l
+}
+
 /// The number of leading bytes that x and y have in common.
 pub fn common_length(x: &[u8], y: &[u8]) -> usize
     ensures { λ r. ⌜ r ≡ commonLength (now (x .entry)) (now (y .entry)) ⌝ }
 {
     let most = shorter(x.len(), y.len());
-    let mut l: usize = 0;
+    let mut l = skip_fours(x, y);
     while l < most {
         if x[l] != y[l] {
             return l;

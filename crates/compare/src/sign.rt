@@ -1,5 +1,6 @@
 //! The sign of two words in the inverse order.
 use super::common::common_length;
+use super::common::shorter;
 ghost use mathlib.Core.Path.{_≡_};
 ghost use Rattle.compare.specs.Compare.{inverseSign};
 
@@ -8,17 +9,17 @@ pub fn inverse_sign(x: &[u8], y: &[u8]) -> i8
     ensures { λ r. ⌜ r ≡ inverseSign (now (x .entry)) (now (y .entry)) ⌝ }
 {
     let l = common_length(x, y);
-    if l == x.len() {
-        if l == y.len() {
-            return 0;
+    if l < shorter(x.len(), y.len()) {
+        if x[l] < y[l] {
+            return 1;
         }
         return -1;
     }
-    if l == y.len() {
+    if x.len() < y.len() {
+        return -1;
+    }
+    if y.len() < x.len() {
         return 1;
     }
-    if x[l] < y[l] {
-        return 1;
-    }
-    -1
+    0
 }

@@ -1,16 +1,13 @@
--- Which numbers the lines of a call can give (first-listed), and that the comparison's lines pass inside a range (comparison-accepted).
+-- Which numbers the lines of a call can give (first-listed).
 use mathlib.Core.Path.{_≡_, refl}
 use mathlib.Core.Bool.{Bool, true, false, _||_}
 use mathlib.Core.Logic.{_⊎_, inl, inr}
 use mathlib.Core.List.{List, [], _∷_, List·Memᴰ, List·Memᴰ·head, List·Memᴰ·tail}
-use Prim.Native.Nat.{ℕ, zero, suc, _≤_, _<_}
-use native.Mathlib.Omega.{arith}
-use borrow.Author.Tests.{ne-eqb, le-ltb, lt-leb}
+use Prim.Native.Nat.{ℕ, zero, suc}
 use lib.ListN.{length}
 use lib.Dec.{leb, ltb, eqb}
 use Rattle.checks.specs.Refusals.{refuse, firstRefusal, recordRefusal, workRefusal, resultRefusal, rangeRefusal, startRefusal, endsRefusal, numberRefusal}
 use Rattle.checks.proofs.EndsLaws.{EndsView, valid, invalid, ends-view}
-use Rattle.compare.specs.Compare.{compareRefusal}
 
 abbrev pub Listed : List ℕ → ℕ → Type 0
 Listed numbers e = (e ≡ 0) ⊎ List·Memᴰ e numbers
@@ -70,23 +67,3 @@ ends-listed es n m = one-number m (go (ends-view es n))
 pub number-listed : {numbers : List ℕ} (number count : ℕ) → List·Memᴰ 8 numbers → Listed numbers (numberRefusal number count)
 unfolding numberRefusal
 number-listed number count m = one-number m (refuse-cases (leb count number) 8)
-
--- ---- lines that pass
-
-pub record-passes : (w : List ℕ) → 0 < length w → length w ≤ 4096 → recordRefusal w ≡ 0
-unfolding recordRefusal
-record-passes w p l = rw (ne-eqb (length w) 0 (λ z. omega arith), le-ltb 4096 (length w) l)
-
-range-passes : (n first end : ℕ) → first < end → end ≤ n → rangeRefusal n first end ≡ 0
-unfolding rangeRefusal
-range-passes n first end p l = rw (lt-leb end first p, le-ltb n end l)
-
-start-passes : (first end start : ℕ) → first ≤ start → start < end → startRefusal first end start ≡ 0
-unfolding startRefusal
-start-passes first end start p l = rw (le-ltb start first p, lt-leb end start l)
-
-pub comparison-accepted : (w : List ℕ) (first end start other : ℕ) → 0 < length w → length w ≤ 4096 → end ≤ length w
-    → first ≤ start → start < end → first ≤ other → other < end → compareRefusal w first end start other ≡ 0
-unfolding compareRefusal
-comparison-accepted w first end start other p q r a b c d =
-    rw (record-passes w p q, range-passes (length w) first end (omega arith) r, start-passes first end start a b, start-passes first end other c d)

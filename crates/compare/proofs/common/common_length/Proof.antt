@@ -2,12 +2,10 @@
 use borrow.Author.Needs.{needs}
 use Prim.Native.Nat.{_-_}
 use native.Mathlib.Omega.{arith}
-use Rattle.compare.proofs.CommonLength.{Matched, matched-none, matched-more, agree-unique}
+use Rattle.compare.proofs.CommonLength.{matched-more, agree-unique}
+use Rattle.compare.specs.Steps.{Matched}
 use Rattle.compare.proofs.common.common_length.Statement.{statement}
 use Rattle.compare.proofs.common.common_length.Tie as tie
-use Rattle.compare.proofs.common.common_length.Reads as reads
-use Rattle.compare.proofs.common.common_length.Lts as lts
-use Rattle.compare.proofs.common.shorter.Reads as shorter-reads
 
 abbrev Inv-loop : tie.InvT-loop
 Inv-loop x y most l₀ l = Matched x y l
@@ -18,14 +16,17 @@ abbrev μ-loop : tie.MeasureT-loop
 shorter-requires : tie.Need-shorter-requires Inv-loop μ-loop
 shorter-requires c κs = search needs
 
+skip-fours-requires : tie.Need-skip-fours-requires Inv-loop μ-loop
+skip-fours-requires c κs = search needs
+
 loop-holds : tie.Need-loop-holds Inv-loop μ-loop
-loop-holds c = matched-none _ _
+loop-holds c = c .skip-fours .ensures
 
 shared-slice-read-if1 : tie.Need-shared-slice-read-if1 Inv-loop μ-loop
-shared-slice-read-if1 c = omega (arith, c .before .before .before .shorter .ensures)
+shared-slice-read-if1 c = omega (arith, c .before .before .before .before .shorter .ensures)
 
 shared-slice-read-if1-2 : tie.Need-shared-slice-read-if1-2 Inv-loop μ-loop
-shared-slice-read-if1-2 c = omega (arith, c .before .before .before .before .shorter .ensures)
+shared-slice-read-if1-2 c = omega (arith, c .before .before .before .before .before .shorter .ensures)
 
 returns : tie.Need-returns Inv-loop μ-loop
 returns c = agree-unique _ _ _ (record { matched = c .before .before .before .before .loop .inv; differ = λ h k e. omega arith })
@@ -39,11 +40,11 @@ loop-less c = search needs
 loop-again : tie.Need-loop-again Inv-loop μ-loop
 loop-again c =
     let b = c .before .before .before in
-    let m = b .before .before .shorter .ensures in
+    let m = b .before .before .before .shorter .ensures in
     matched-more _ _ _ (b .before .loop .inv) (omega (arith, b .loop-test .taken)) (omega (arith, b .loop-test .taken)) (omega arith)
 
 returns-2 : tie.Need-returns-2 Inv-loop μ-loop
-returns-2 c = agree-unique _ _ _ (record { matched = c .before .loop .inv; differ = λ h k. absurd (omega (arith, c .before .before .shorter .ensures)) })
+returns-2 c = agree-unique _ _ _ (record { matched = c .before .loop .inv; differ = λ h k. absurd (omega (arith, c .before .before .before .shorter .ensures)) })
 
 pub common-length-spec : {M : Type 1} → statement M
 common-length-spec =
@@ -52,6 +53,7 @@ common-length-spec =
     Inv-loop
     μ-loop
     shorter-requires
+    skip-fours-requires
     loop-holds
     shared-slice-read-if1
     shared-slice-read-if1-2

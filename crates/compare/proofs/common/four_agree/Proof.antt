@@ -1,0 +1,73 @@
+-- All four letters are there; joined differences of 0 make them equal.
+use borrow.Author.Needs.{needs}
+use borrow.Author.Tests.{eqb-true}
+use Rattle.compare.proofs.FourLaws.{four-more}
+use Rattle.compare.proofs.common.four_agree.Statement.{statement}
+use Rattle.compare.proofs.common.four_agree.Tie as tie
+
+shared-slice-read-near : tie.Need-shared-slice-read-near
+shared-slice-read-near c = search needs
+
+shared-slice-read-near-2 : tie.Need-shared-slice-read-near-2
+shared-slice-read-near-2 c = search needs
+
+add-near : tie.Need-add-near
+add-near c = search needs
+
+shared-slice-read-near-3 : tie.Need-shared-slice-read-near-3
+shared-slice-read-near-3 c = search needs
+
+add-near-2 : tie.Need-add-near-2
+add-near-2 c = search needs
+
+shared-slice-read-near-4 : tie.Need-shared-slice-read-near-4
+shared-slice-read-near-4 c = search needs
+
+add-far : tie.Need-add-far
+add-far c = search needs
+
+shared-slice-read-far : tie.Need-shared-slice-read-far
+shared-slice-read-far c = search needs
+
+add-far-2 : tie.Need-add-far-2
+add-far-2 c = search needs
+
+shared-slice-read-far-2 : tie.Need-shared-slice-read-far-2
+shared-slice-read-far-2 c = search needs
+
+add-far-3 : tie.Need-add-far-3
+add-far-3 c = search needs
+
+shared-slice-read-far-3 : tie.Need-shared-slice-read-far-3
+shared-slice-read-far-3 c = search needs
+
+add-far-4 : tie.Need-add-far-4
+add-far-4 c = search needs
+
+shared-slice-read-far-4 : tie.Need-shared-slice-read-far-4
+shared-slice-read-far-4 c = search needs
+
+returns : tie.Need-returns
+returns c e g =
+    let start = c .before .before .before .before .before .before .before .before in
+    four-more _ _ _ (start .pre) (eqb-true _ _ e) g
+
+pub four-agree-spec : {M : Type 1} → statement M
+four-agree-spec =
+    tie.close
+    (tie.spec
+    shared-slice-read-near
+    shared-slice-read-near-2
+    add-near
+    shared-slice-read-near-3
+    add-near-2
+    shared-slice-read-near-4
+    add-far
+    shared-slice-read-far
+    add-far-2
+    shared-slice-read-far-2
+    add-far-3
+    shared-slice-read-far-3
+    add-far-4
+    shared-slice-read-far-4
+    returns)
