@@ -2,6 +2,7 @@
 use mathlib.Core.Path.{_≡_, refl, ap, sym, _∙_}
 use mathlib.Core.List.{List, _∷_, _++_, append-assoc}
 use Prim.Native.Nat.{ℕ, suc, _+_, _-_, _≤_, _<_}
+use native.Mathlib.Nat.{le-refl}
 use native.Mathlib.Omega.{arith}
 use lib.ListN.{length, take, drop, getD, set, length-append, length-drop, length-set, take-append-drop, List·getD-append}
 use lib.Seq.{length-take-le, take-suc, drop-cons, drop-at, set-at, getD-drop, getD-append-add}
@@ -9,7 +10,8 @@ use Rattle.words.specs.Factorizations.{lyndonTable}
 use Rattle.words.specs.AntiLyndonLaws.{longest-is}
 use Rattle.words.specs.LyndonTableCflIn.{lyndon-table-length, lyndon-table-at}
 use Rattle.checks.specs.Answers.{writtenAs}
-use Rattle.table.specs.Steps.{Fits, TabledAfter}
+use Rattle.table.specs.Steps.{Fits, NextKnown}
+use Rattle.table.proofs.MergeLaws.{table-end}
 
 -- from i on the entries are those of goal, and before i they are as they were
 pub record Filled (goal out₀ out : List ℕ) (i : ℕ) : Type 0 where
@@ -43,53 +45,60 @@ filled-read goal out₀ out i k l h g =
 abbrev tabled : List ℕ → List ℕ → List ℕ
 tabled w out₀ = writtenAs 0 (lyndonTable w) out₀
 
-pub record Filling (w out₀ out : List ℕ) (i : ℕ) : Type 0 where
+-- where the loop stands: the table is written from i on, and next is the entry at i
+pub record Filling (w out₀ out : List ℕ) (i next : ℕ) : Type 0 where
   pub upto : i ≤ length w
+  pub entry : next ≡ getD (lyndonTable w) i 0
   pub filled : Filled (tabled w out₀) out₀ out i
 
-module _ (w out₀ : List ℕ) (f : Fits w out₀) where
+module _ {w out₀ : List ℕ} (f : Fits w out₀) where
   tabled-length : length (tabled w out₀) ≡ length out₀
   tabled-length = simp (length-append, length-drop, lyndon-table-length) (omega (arith, f .room))
 
   tabled-at : (k : ℕ) → k < length w → getD (tabled w out₀) k 0 ≡ getD (lyndonTable w) k 0
   tabled-at k l = List·getD-append (lyndonTable w) (drop (length (lyndonTable w)) out₀) 0 k (rw (lyndon-table-length w) l)
 
-  pub fill-begins : Filling w out₀ out₀ (length w)
+  pub fill-begins : Filling w out₀ out₀ (length w) 0
   fill-begins =
       let n : length (lyndonTable w) ≡ length w = lyndon-table-length w in
       record {
         upto = omega arith;
+        entry = sym (table-end w (length w) (le-refl _));
         filled = record {
           content = rw (n, drop-at (lyndonTable w) (drop (length w) out₀) (length w) n) (sym (take-append-drop (length w) out₀));
           same = refl;
         };
       }
 
-  module _ (out : List ℕ) (i : ℕ) (g : Filling w out₀ out i) (p : 0 < i) where
-    pub fill-asks : TabledAfter w out (i - 1)
+  module _ {out : List ℕ} {i next : ℕ} (g : Filling w out₀ out i next) (p : 0 < i) where
+    pub fill-asks : NextKnown w out (i - 1) next
     fill-asks = record {
-      inside = omega (arith, g .upto);
-      room = omega (arith, f .room, g .filled .same);
-      entries = λ k a b. filled-read (tabled w out₀) out₀ out i k (omega (arith, f .room, g .upto)) (omega arith) (g .filled) ∙ tabled-at k b;
+      after = record {
+        inside = omega (arith, g .upto);
+        room = omega (arith, f .room, g .filled .same);
+        entries = λ k a b. filled-read (tabled w out₀) out₀ out i k (omega (arith, f .room, g .upto)) (omega arith) (g .filled) ∙ tabled-at k b;
+      };
+      entry = let s : i - 1 + 1 ≡ i = omega arith in rw s (g .entry);
     }
 
-    module _ (n : ℕ) (e : n ≡ getD (lyndonTable w) (i - 1) 0) where
+    module _ {n : ℕ} (e : n ≡ getD (lyndonTable w) (i - 1) 0) where
       -- an entry is at most the length
       pub fill-short : n ≤ length w
       fill-short =
           let entry = lyndon-table-at w (i - 1) (omega (arith, g .upto)) in
           omega (arith, longest-is (drop (i - 1) w) .upto, length-drop (i - 1) w)
 
-      pub fill-turn : Filling w out₀ (set out (i - 1) n) (i - 1)
+      pub fill-turn : Filling w out₀ (set out (i - 1) n) (i - 1) n
       fill-turn =
           let s : suc (i - 1) ≡ i = omega arith in
-          let entry : getD (tabled w out₀) (i - 1) 0 ≡ n = tabled-at (i - 1) (omega (arith, g .upto)) ∙ sym e in
+          let read : getD (tabled w out₀) (i - 1) 0 ≡ n = tabled-at (i - 1) (omega (arith, g .upto)) ∙ sym e in
           record {
             upto = omega (arith, g .upto);
-            filled = rw entry at
+            entry = e;
+            filled = rw read at
                 (filled-write (tabled w out₀) out₀ out (i - 1) (omega (arith, f .room, g .upto)) (omega (arith, f .room, g .upto, tabled-length))
                 (rw s (g .filled)));
           }
 
-  pub fill-ends : (out : List ℕ) (i : ℕ) → Filling w out₀ out i → i ≡ 0 → out ≡ tabled w out₀
-  fill-ends out i g e = rw e at (g .filled .content)
+  pub fill-ends : {out : List ℕ} {i next : ℕ} → Filling w out₀ out i next → i ≡ 0 → out ≡ tabled w out₀
+  fill-ends g e = rw e at (g .filled .content)

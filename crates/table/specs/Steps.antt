@@ -1,9 +1,10 @@
 -- What the steps of the Lyndon table ask of their arguments.
 use mathlib.Core.Path.{_≡_}
 use mathlib.Core.List.{List}
-use Prim.Native.Nat.{ℕ, _≤_, _<_}
+use Prim.Native.Nat.{ℕ, _+_, _≤_, _<_}
 use lib.ListN.{length, getD}
 use Rattle.words.specs.Factorizations.{lyndonTable}
+use Rattle.words.specs.Merging.{Merged}
 
 -- the entries fit into 16 bits, and the buffer has room for them
 pub record Fits (w out : List ℕ) : Type 0 where
@@ -15,3 +16,13 @@ pub record TabledAfter (w out : List ℕ) (i : ℕ) : Type 0 where
   pub inside : i < length w
   pub room : length w ≤ length out
   pub entries : (k : ℕ) → i < k → k < length w → getD out k 0 ≡ getD (lyndonTable w) k 0
+
+-- and next is the first of them, 0 if there is none
+pub record NextKnown (w out : List ℕ) (i next : ℕ) : Type 0 where
+  pub after : TabledAfter w out i
+  pub entry : next ≡ getD (lyndonTable w) (i + 1) 0
+
+-- and the word from i to j is anti-Lyndon
+pub record MergedTo (w out : List ℕ) (i j : ℕ) : Type 0 where
+  pub after : TabledAfter w out i
+  pub merged : Merged w i j

@@ -1,32 +1,44 @@
 //! The Lyndon table by merging: from right to left, the longest anti-Lyndon word at a place is made of the letter there and the
 //! longest words that follow, as long as each comes after what stands before it.
 ghost use mathlib.Core.Path.{_≡_};
+ghost use mathlib.Core.List.{[], _∷_};
 ghost use lib.ListN.{getD};
 ghost use Rattle.words.specs.Words.{isInverseBefore};
 ghost use Rattle.words.specs.Factorizations.{lyndonTable};
 ghost use Rattle.checks.specs.Answers.{writtenAs};
-ghost use Rattle.table.specs.Steps.{Fits, TabledAfter};
+ghost use Rattle.table.specs.Steps.{Fits, NextKnown, MergedTo};
 
-/// Whether u comes before v in the inverse order.
+/// Whether u comes before v in the inverse order. The test repeats that of the loop in `common_length`, so that the compiler can join them.
 pub fn comes_before(u: &[u8], v: &[u8]) -> bool
     ensures { λ r. ⌜ r ≡ isInverseBefore (now (u .entry)) (now (v .entry)) ⌝ }
 {
     let l = compare::common_length(u, v);
-    if l == u.len() {
-        return l < v.len();
+    if l < compare::shorter(u.len(), v.len()) {
+        return v[l] < u[l];
     }
-    if l == v.len() {
-        return false;
-    }
-    v[l] < u[l]
+    u.len() < v.len()
 }
 
-/// Entry i of the table, from the entries after it.
-pub fn longest_at(word: &[u8], lengths: &[u16], i: usize) -> usize
-    requires { ⌜ TabledAfter (now word) (now lengths) i ⌝ }
+/// Whether a letter, as a word, comes before v in the inverse order.
+fn letter_comes_before(a: u8, v: &[u8]) -> bool
+    ensures { λ r. ⌜ r ≡ isInverseBefore (a ∷ []) (now (v .entry)) ⌝ }
+{
+    if v.len() == 0 {
+        return false;
+    }
+    let b = v[0];
+    if b == a {
+        return 1 < v.len();
+    }
+    b < a
+}
+
+/// Entry i of the table: the word from i to `from` is anti-Lyndon, and the words that follow join it as long as they come after it.
+fn longest_from(word: &[u8], lengths: &[u16], i: usize, from: usize) -> usize
+    requires { ⌜ MergedTo (now word) (now lengths) i from ⌝ }
     ensures { λ r. ⌜ r ≡ getD (lyndonTable (now (word .entry))) i 0 ⌝ }
 {
-    let mut j = i + 1;
+    let mut j = from;
     while j < word.len() {
         let n = lengths[j] as usize;
         if !comes_before(&word[i..j], &word[j..j + n]) {
@@ -37,15 +49,28 @@ pub fn longest_at(word: &[u8], lengths: &[u16], i: usize) -> usize
     j - i
 }
 
-/// Writes the table from its last entry on; what is written is read again.
+/// Entry i of the table, from the entries after it; `next` is the first of them, 0 if there is none.
+pub fn longest_at(word: &[u8], lengths: &[u16], i: usize, next: usize) -> usize
+    requires { ⌜ NextKnown (now word) (now lengths) i next ⌝ }
+    ensures { λ r. ⌜ r ≡ getD (lyndonTable (now (word .entry))) i 0 ⌝ }
+{
+    let j = i + 1;
+    if !letter_comes_before(word[i], &word[j..j + next]) {
+        return 1;
+    }
+    longest_from(word, lengths, i, j + next)
+}
+
+/// Writes the table from its last entry on. The entry just written is handed on, the others are read again.
 pub fn fill_table(word: &[u8], lengths: &mut [u16])
     requires { ⌜ Fits (now word) (now lengths) ⌝ }
     ensures { λ r. ⌜ now (lengths .exit) ≡ writtenAs 0 (lyndonTable (now (word .entry))) (now (lengths .entry)) ⌝ }
 {
     let mut i = word.len();
+    let mut n: usize = 0;
     while 0 < i {
         i -= 1;
-        let n = longest_at(word, lengths, i);
+        n = longest_at(word, lengths, i, n);
         lengths[i] = n as u16;
     }
 }

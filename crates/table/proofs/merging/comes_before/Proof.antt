@@ -1,7 +1,8 @@
--- The common length shows where the words part: one ends there, or they differ.
+-- The common length shows where the words part: they differ there, or one ends, and the shorter one is a prefix.
 use borrow.Author.Needs.{needs}
-use Rattle.compare.proofs.CommonLength.{Agree, common-agree, agree-inside}
-use Rattle.table.proofs.BeforeLaws.{prefix-before, prefix-after, letter-before}
+use native.Mathlib.Omega.{arith}
+use Rattle.compare.proofs.CommonLength.{Agree, common-agree}
+use Rattle.table.proofs.BeforeLaws.{letters-decide, lengths-decide}
 use Rattle.table.proofs.merging.comes_before.Statement.{statement}
 use Rattle.table.proofs.merging.comes_before.Tie as tie
 
@@ -11,28 +12,28 @@ agree c = rw (c .common-length .ensures) (common-agree _ _)
 common-length-requires : tie.Need-common-length-requires
 common-length-requires c κs = search needs
 
-returns : tie.Need-returns
-returns c = prefix-before (agree (c .before)) (c .if1 .taken)
-
-returns-2 : tie.Need-returns-2
-returns-2 c = prefix-after (agree (c .before .before)) (c .before .if1 .left) (c .if2 .taken)
+shorter-requires : tie.Need-shorter-requires
+shorter-requires c κs = search needs
 
 shared-slice-read-result : tie.Need-shared-slice-read-result
-shared-slice-read-result c = agree-inside (agree (c .before .before .before)) (c .before .before .if1 .left) (c .before .if2 .left) .1
+shared-slice-read-result c = search needs
 
 shared-slice-read-result-2 : tie.Need-shared-slice-read-result-2
-shared-slice-read-result-2 c = agree-inside (agree (c .before .before .before .before)) (c .before .before .before .if1 .left) (c .before .before .if2 .left) .0
+shared-slice-read-result-2 c = search needs
 
-returns-3 : tie.Need-returns-3
-returns-3 c = letter-before (agree (c .before .before .before .before)) (c .before .before .before .if1 .left) (c .before .before .if2 .left)
+returns : tie.Need-returns
+returns c = letters-decide (agree (c .before .before .before .before)) (omega arith)
+
+returns-2 : tie.Need-returns-2
+returns-2 c = lengths-decide (agree (c .before .before)) (omega arith)
 
 pub comes-before-spec : {M : Type 1} → statement M
 comes-before-spec =
     tie.close
     (tie.spec
     common-length-requires
-    returns
-    returns-2
+    shorter-requires
     shared-slice-read-result
     shared-slice-read-result-2
-    returns-3)
+    returns
+    returns-2)

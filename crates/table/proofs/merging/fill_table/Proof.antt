@@ -1,4 +1,5 @@
--- From the place i on the buffer holds the table, and before it what it held; a turn reads the entries after i and writes the one before.
+-- From the place i on the buffer holds the table, and before it what it held; n is the entry at i. A turn reads the entries from i on
+-- and writes the one before.
 use borrow.Author.Needs.{needs}
 use native.Mathlib.Omega.{arith}
 use Rattle.table.proofs.FillLaws.{Filling, fill-begins, fill-asks, fill-short, fill-turn, fill-ends}
@@ -6,24 +7,24 @@ use Rattle.table.proofs.merging.fill_table.Statement.{statement}
 use Rattle.table.proofs.merging.fill_table.Tie as tie
 
 abbrev Inv-loop : tie.InvT-loop
-Inv-loop word lengths₀ i₀ lengths i = Filling word lengths₀ lengths i
+Inv-loop word lengths₀ i₀ n₀ lengths i n = Filling word lengths₀ lengths i n
 
 abbrev μ-loop : tie.MeasureT-loop
-μ-loop word lengths₀ i₀ lengths i = i
+μ-loop word lengths₀ i₀ n₀ lengths i n = i
 
 loop-holds : tie.Need-loop-holds Inv-loop μ-loop
-loop-holds c = fill-begins _ _ (c .before .before .pre)
+loop-holds c = fill-begins (c .before .before .pre)
 
 sub-i : tie.Need-sub-i Inv-loop μ-loop
 sub-i c = search needs
 
 longest-at-requires : tie.Need-longest-at-requires Inv-loop μ-loop
-longest-at-requires c κs = fill-asks _ _ (c .before .before .before .before .before .pre) _ _ (c .before .before .loop .inv) (omega arith)
+longest-at-requires c κs = fill-asks (c .before .before .before .before .before .pre) (c .before .before .loop .inv) (omega arith)
 
 cast-lengths : tie.Need-cast-lengths Inv-loop μ-loop
 cast-lengths c =
     let start = c .before .before .before .before .before .before in
-    omega (arith, start .pre .short, fill-short _ _ (start .pre) _ _ (c .before .before .before .loop .inv) (omega arith) _ (c .longest-at .ensures))
+    omega (arith, start .pre .short, fill-short (start .pre) (c .before .before .before .loop .inv) (omega arith) (c .longest-at .ensures))
 
 mul-lengths : tie.Need-mul-lengths Inv-loop μ-loop
 mul-lengths c = search needs
@@ -36,14 +37,14 @@ loop-less c = search needs
 
 loop-again : tie.Need-loop-again Inv-loop μ-loop
 loop-again c =
-    let b = c .before .before .before in
-    fill-turn _ _ (b .before .before .before .pre) _ _ (b .loop .inv) (omega arith) _ (c .longest-at .ensures)
+    let turn = c .before .before .before in
+    fill-turn (turn .before .before .before .pre) (turn .loop .inv) (omega arith) (c .longest-at .ensures)
 
 same-length : tie.Need-same-length Inv-loop μ-loop
 same-length c = search needs
 
 returns : tie.Need-returns Inv-loop μ-loop
-returns c = fill-ends _ _ (c .before .before .before .before .pre) _ _ (c .before .loop .inv) (omega arith)
+returns c = fill-ends (c .before .before .before .before .pre) (c .before .loop .inv) (omega arith)
 
 pub fill-table-spec : {M : Type 1} → statement M
 fill-table-spec =

@@ -1,113 +1,68 @@
--- The word from i to j is anti-Lyndon; the longest word at j joins it if it comes after it, and else nothing longer begins at i.
+-- The first turn: the letter at i is anti-Lyndon, and the next entry is known.
 use borrow.Author.Needs.{needs}
-use Prim.Native.Nat.{_+_, _-_, _≤_, _<_}
+use Prim.Native.Nat.{_+_, _≤_}
 use native.Mathlib.Omega.{arith}
-use lib.ListN.{length, getD}
+use lib.ListN.{length}
 use borrow.Author.Tests.{not-true, not-false}
-use Rattle.words.specs.Merging.{Merged, merged-letter}
-use Rattle.table.proofs.MergeLaws.{turn-fits, turn-joins, turn-stops, turns-end}
+use Rattle.table.proofs.MergeLaws.{next-fits, letter-joins, letter-stops}
 use Rattle.table.proofs.merging.longest_at.Statement.{statement}
 use Rattle.table.proofs.merging.longest_at.Tie as tie
 
-abbrev Inv-loop : tie.InvT-loop
-Inv-loop word lengths i j₀ j = Merged word i j
+fits : (start : tie.Start) → start .args .i + 1 + start .args .next ≤ length (start .args .word .now)
+fits start = next-fits _ _ _ (start .pre .after .inside) (start .pre .entry)
 
-abbrev μ-loop : tie.MeasureT-loop
-μ-loop word lengths i j₀ j = length word - j
-
-fits : (c : tie.In-loop Inv-loop μ-loop) → let a = c .before .before .before .before .args in let j = c .before .loop .j in
-    (0 < getD (a .lengths .now) j 0) × (j + getD (a .lengths .now) j 0 ≤ length (a .word .now))
-fits c = turn-fits _ _ _ _ (c .before .before .before .before .pre) (c .before .loop .inv) (c .loop-test .taken)
-
-add-j : tie.Need-add-j Inv-loop μ-loop
+add-j : tie.Need-add-j
 add-j c = search needs
 
-loop-holds : tie.Need-loop-holds Inv-loop μ-loop
-loop-holds c = merged-letter _ _ (c .before .before .pre .inside)
+shared-slice-read-letter-comes-before : tie.Need-shared-slice-read-letter-comes-before
+shared-slice-read-letter-comes-before c = search needs
 
-mul-n : tie.Need-mul-n Inv-loop μ-loop
-mul-n c = search needs
+add-letter-comes-before : tie.Need-add-letter-comes-before
+add-letter-comes-before c = omega (arith, fits (c .before .before .before))
 
-shared-slice-read-n : tie.Need-shared-slice-read-n Inv-loop μ-loop
-shared-slice-read-n c = search needs
+sub-letter-comes-before : tie.Need-sub-letter-comes-before
+sub-letter-comes-before c = search needs
 
-cast-n : tie.Need-cast-n Inv-loop μ-loop
-cast-n c = omega (arith, c .shared-slice-known3 .given (c .before .before .loop .j))
+part-letter-comes-before-start : tie.Need-part-letter-comes-before-start
+part-letter-comes-before-start c = search needs
 
-sub-comes-before : tie.Need-sub-comes-before Inv-loop μ-loop
-sub-comes-before c = search needs
+part-letter-comes-before-end : tie.Need-part-letter-comes-before-end
+part-letter-comes-before-end c = omega (arith, fits (c .before .before .before))
 
-part-comes-before-start : tie.Need-part-comes-before-start Inv-loop μ-loop
-part-comes-before-start c = search needs
+letter-comes-before-requires : tie.Need-letter-comes-before-requires
+letter-comes-before-requires c κs = search needs
 
-part-comes-before-end : tie.Need-part-comes-before-end Inv-loop μ-loop
-part-comes-before-end c = search needs
-
-add-comes-before : tie.Need-add-comes-before Inv-loop μ-loop
-add-comes-before c = omega (arith, fits (c .before .before) .1)
-
-sub-comes-before-2 : tie.Need-sub-comes-before-2 Inv-loop μ-loop
-sub-comes-before-2 c = search needs
-
-part-comes-before-start-2 : tie.Need-part-comes-before-start-2 Inv-loop μ-loop
-part-comes-before-start-2 c = search needs
-
-part-comes-before-end-2 : tie.Need-part-comes-before-end-2 Inv-loop μ-loop
-part-comes-before-end-2 c = omega (arith, fits (c .before .before) .1)
-
-comes-before-requires : tie.Need-comes-before-requires Inv-loop μ-loop
-comes-before-requires c κs = search needs
-
-sub-result : tie.Need-sub-result Inv-loop μ-loop
-sub-result c = search needs
-
-returns : tie.Need-returns Inv-loop μ-loop
+returns : tie.Need-returns
 returns c =
-    let b = c .before .before .before .before .before in
-    turn-stops _ _ _ _ (b .before .before .before .before .pre) (b .before .loop .inv) (b .loop-test .taken)
-    _ (c .before .comes-before .ensures) (not-true _ (c .if1 .taken))
+    let known = c .before .before .before .before .before .before .pre in
+    letter-stops _ _ _ (known .after .inside) (known .entry) (c .before .letter-comes-before .ensures) (not-true _ (c .if1 .taken))
 
-add-j-2 : tie.Need-add-j-2 Inv-loop μ-loop
-add-j-2 c = omega (arith, fits (c .before .before .before .before .before) .1)
+add-longest-from : tie.Need-add-longest-from
+add-longest-from c = omega (arith, fits (c .before .before .before .before .before .before))
 
-loop-less : tie.Need-loop-less Inv-loop μ-loop
-loop-less c = omega (arith, fits (c .before .before .before .before .before) .0)
+longest-from-requires : tie.Need-longest-from-requires
+longest-from-requires c κs =
+    let known = c .before .before .before .before .before .before .pre in
+    record {
+      after = known .after;
+      merged = letter-joins _ _ _ (known .after .inside) (known .entry) (c .before .letter-comes-before .ensures) (not-false _ (c .if1 .left));
+    }
 
-loop-again : tie.Need-loop-again Inv-loop μ-loop
-loop-again c =
-    let b = c .before .before .before .before .before in
-    turn-joins _ _ _ _ (b .before .before .before .before .pre) (b .before .loop .inv) (b .loop-test .taken)
-    _ (c .before .comes-before .ensures) (not-false _ (c .if1 .left))
-
-sub-result-2 : tie.Need-sub-result-2 Inv-loop μ-loop
-sub-result-2 c = search needs
-
-returns-2 : tie.Need-returns-2 Inv-loop μ-loop
-returns-2 c = turns-end _ _ _ _ (c .before .before .before .before .pre) (c .before .loop .inv) (c .loop-test .left)
+returns-2 : tie.Need-returns-2
+returns-2 c = search needs
 
 pub longest-at-spec : {M : Type 1} → statement M
 longest-at-spec =
     tie.close
     (tie.spec
-    Inv-loop
-    μ-loop
     add-j
-    loop-holds
-    mul-n
-    shared-slice-read-n
-    cast-n
-    sub-comes-before
-    part-comes-before-start
-    part-comes-before-end
-    add-comes-before
-    sub-comes-before-2
-    part-comes-before-start-2
-    part-comes-before-end-2
-    comes-before-requires
-    sub-result
+    shared-slice-read-letter-comes-before
+    add-letter-comes-before
+    sub-letter-comes-before
+    part-letter-comes-before-start
+    part-letter-comes-before-end
+    letter-comes-before-requires
     returns
-    add-j-2
-    loop-less
-    loop-again
-    sub-result-2
+    add-longest-from
+    longest-from-requires
     returns-2)
