@@ -69,7 +69,7 @@ agree-unique x y l g = go (common-agree x y)
 
 module _ {x y : List ℕ} {l : ℕ} (g : Agree x y l) where
   -- x ends first, or both end
-  agree-⊑ : length x ≤ l → x ⊑ y
+  pub agree-⊑ : length x ≤ l → x ⊑ y
   agree-⊑ e = ⊑-letters x y (omega (arith, g .matched .right)) (λ t h. g .matched .equal t (omega arith))
 
   pub agree-same : length x ≤ l → length y ≤ length x → x ≡ y

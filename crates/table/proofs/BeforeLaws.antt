@@ -27,16 +27,16 @@ module _ {u v : List ℕ} {l : ℕ} (g : Agree u v l) where
   letters-decide k = go (leb-test (suc (getD v l 0)) (getD u l 0))
     where
       go : {t : Bool} → Decides (getD v l 0 < getD u l 0) t → t ≡ isInverseBefore u v
-      go (holds h) = before-true (mismatch (agree-≪ (agree-sym g) (λ e. omega arith) (λ e. omega arith) h))
-      go (fails h) = before-false (won (agree-≪-sym (agree-sym g) (λ e. omega arith) (λ e. omega arith) (omega arith)))
+      go (holds h) = before-true (mismatch (agree-≪ (agree-sym g) (omega arith) (omega arith) h))
+      go (fails h) = before-false (won (agree-≪-sym (agree-sym g) (omega arith) (omega arith) (omega arith)))
 
   -- one is a prefix of the other
   pub lengths-decide : min (length u) (length v) ≤ l → ltb (length u) (length v) ≡ isInverseBefore u v
   lengths-decide k = go (leb-test (suc (length u)) (length v))
     where
       go : {t : Bool} → Decides (length u < length v) t → t ≡ isInverseBefore u v
-      go (holds h) = before-true (agree-shorter g (omega (arith, g .matched .left)) (λ e. omega arith))
-      go (fails h) = before-false (pre (agree-⊑ (agree-sym g) (omega (arith, g .matched .right))))
+      go (holds h) = before-true (agree-shorter g (omega arith) h)
+      go (fails h) = before-false (pre (agree-⊑ (agree-sym g) (omega arith)))
 
 -- ---- a letter and a word
 
