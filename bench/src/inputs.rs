@@ -6,8 +6,8 @@ pub type Input = (&'static str, usize, fn(usize, usize) -> Vec<u8>);
 
 /// Random records take turns, so that no branch predictor knows them by heart.
 pub const INPUTS: [Input; 9] = [
-    ("random, 2 letters", 16, |n, k| random(n, k, 2)),
-    ("random, 256 letters", 16, |n, k| random(n, k, 256)),
+    ("random, 2 letters", 64, |n, k| random(n, k, 2)),
+    ("random, 256 letters", 64, |n, k| random(n, k, 256)),
     ("a^n", 1, |n, _| vec![b'a'; n]),
     ("(ba)^(n/2)", 1, |n, _| b"ba".repeat(n / 2)),
     ("Fibonacci", 1, |n, _| fibonacci_word(b'b', b'a', n)),

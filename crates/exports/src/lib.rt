@@ -40,10 +40,10 @@ pub extern "C" fn metsroeb_test(
 ) -> u8
     ensures { λ r. ⌜ TestNumbers (now (word .entry)) (now (work .entry)) r (now (failing .exit)) (now (prefix .exit)) (now (border .exit)) (now (work .exit)) ⌝ }
 {
+    let found = extension::find_extension(word, work);
     *failing = 0;
     *prefix = 0;
     *border = 0;
-    let found = extension::find_extension(word, work);
     match found {
         Extension::InverseLyndon => 0,
         Extension::Failing {
