@@ -8,7 +8,6 @@ use native.Mathlib.Omega.{arith}
 use lib.ListN.{length}
 use Rattle.checks.proofs.EndsLaws.{Rises, done, more, rises-most}
 use Rattle.reading.specs.Summary.{summaryRefusal, lengthsFrom, bitLength, countOf, bandsOf, summaryAs}
-use Rattle.reading.specs.Steps.{Ends}
 use Rattle.reading.proofs.BitLengths.{bit-length-most, bit-length-some}
 use Rattle.reading.proofs.SummaryLaws.{bandsFrom, countsFrom, count-here, count-other, bands-are-counts}
 use Rattle.reading.proofs.SummaryAnswers.{summary-accepted}
@@ -53,6 +52,6 @@ pub summary-bands-sum : (w es : List ℕ) → sum _+_ 0 (summaryAs (summaryRefus
 unfolding sum summaryAs
 summary-bands-sum w es = go (summaryRefusal w es) (summary-accepted w es)
   where
-    go : (k : ℕ) → (k ≡ 0 → Ends es) → sum _+_ 0 (summaryAs k es .bands) ≡ summaryAs k es .count
-    go zero g = let m = g refl in bands-sum (m .end) es (m .rises) (m .short)
+    go : (k : ℕ) → (k ≡ 0 → Rises (length w) 0 es × (length w ≤ 4096)) → sum _+_ 0 (summaryAs k es .bands) ≡ summaryAs k es .count
+    go zero g = let m = g refl in bands-sum (length w) es (m .0) (m .1)
     go (suc k) g = refl

@@ -1,8 +1,8 @@
 -- What an accepted list of ends tells: it rises to the record's length (ends-accepted), so its parts are not empty and lie in the record
--- (rises-at), and there are no more of them than letters (rises-length).
+-- (rises-at), and it has one (rises-some).
 use mathlib.Core.Path.{_≡_}
 use mathlib.Core.List.{List, _∷_}
-use Prim.Native.Nat.{ℕ, zero, suc, _+_, _≤_, _<_}
+use Prim.Native.Nat.{ℕ, zero, suc, _≤_, _<_}
 use native.Mathlib.Omega.{arith}
 use lib.ListN.{length, getD}
 use Rattle.checks.specs.Refusals.{endsRefusal}
@@ -21,6 +21,6 @@ rises-at (done e) k l = absurd (omega arith)
 rises-at (more h r) zero l = (h, rises-most r)
 rises-at (more h r) (suc k) l = rises-at r k (omega arith)
 
-pub rises-length : {n a : ℕ} {es : List ℕ} → Rises n a es → a + length es ≤ n
-rises-length (done e) = omega arith
-rises-length (more h r) = let ih = rises-length r in omega arith
+pub rises-some : {n a : ℕ} {es : List ℕ} → Rises n a es → a < n → 0 < length es
+rises-some (done e) l = absurd (omega arith)
+rises-some (more h r) l = omega arith

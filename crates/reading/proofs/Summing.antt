@@ -1,27 +1,21 @@
 -- The loop of sum_up over plain lists. Summed: what is summed up of the parts before a, taken together with the parts that follow, is the
--- definition's value for the whole list. It holds at the start, through one more part, and at the end says the definition's summary.
+-- definition's value for the whole list, whether line 7 accepts the list or not. It holds at the start, through one more part, and at the
+-- end says the definition's summary. Going: this, and that the ends rise so far.
 use mathlib.Core.Path.{_≡_, refl, ap, sym, _∙_}
 use mathlib.Core.List.{List, [], _∷_}
-use Prim.Native.Nat.{ℕ, zero, suc, _+_, _-_, _≤_, _<_, max}
+use Prim.Native.Nat.{ℕ, suc, _+_, _-_, _≤_, _<_, max}
 use native.Mathlib.Decide.{ℕ-discrete, decLt}
 use native.Mathlib.Omega.{arith}
 use native.Mathlib.Numerals.{add-one}
-use lib.ListN.{length, drop, getD, set, replicate, length-set, drop-of-length-le}
+use lib.ListN.{length, drop, getD, set, length-set, drop-of-length-le, getD-replicate}
 use lib.Seq.{drop-cons, getD-set-same, getD-set-other, ext-getD}
-use Rattle.checks.proofs.EndsLaws.{Rises, rises-head, rises-tail, rises-most}
+use Rattle.checks.specs.Refusals.{endsRefusal}
+use Rattle.checks.proofs.EndsLaws.{done, Rising, rising-start, rising-step, rising-passes}
 use Rattle.reading.specs.Summary.{lengthsFrom, greatest, startOf, bitLength, countOf, bandsOf, emptySummary, summaryAs}
-use Rattle.reading.specs.Steps.{Ends}
 use Rattle.reading.specs.declared.summary.Summary.{Summary}
-use Rattle.reading.proofs.BitLengths.{bit-length-most, bit-length-some}
-use Rattle.reading.proofs.EndsRead.{rises-length}
-use Rattle.reading.proofs.SummaryLaws.{bandsFrom, start-here, start-later, count-here, count-other, count-most, bands-length, bands-at, same-summary}
-
--- one more part, of length n, can be counted
-pub record Room (s : Summary) (n : ℕ) : Type 0 where
-  pub nonempty : 0 < n
-  pub short : n ≤ 4096
-  pub parts : s .count ≤ 4096
-  pub inBand : getD (s .bands) (bitLength n - 1) 0 ≤ 4096
+use Rattle.reading.proofs.BitLengths.{bit-length-some}
+use Rattle.reading.proofs.EndsRead.{rises-some}
+use Rattle.reading.proofs.SummaryLaws.{bandsFrom, start-here, start-later, count-here, count-other, bands-length, bands-at, same-summary}
 
 -- r is s with one more part, of length n from start on
 pub record WithFactor (s : Summary) (start n : ℕ) (r : Summary) : Type 0 where
@@ -36,12 +30,13 @@ pub record WithFactor (s : Summary) (start n : ℕ) (r : Summary) : Type 0 where
 abbrev longestOf : List ℕ → ℕ
 longestOf es = greatest (lengthsFrom 0 es)
 
+-- count k of s makes the whole list's with the parts that follow, and is no more than the parts so far
+pub record Banded (es : List ℕ) (s : Summary) (a : ℕ) (rs : List ℕ) (k : ℕ) : Type 0 where
+  pub whole : getD (s .bands) k 0 + countOf (suc k) (bandsFrom a rs) ≡ countOf (suc k) (bandsFrom 0 es)
+  pub few : getD (s .bands) k 0 ≤ s .count
+
 -- s sums up the parts of es before a; those that follow end at rs
 pub record Summed (es : List ℕ) (s : Summary) (a : ℕ) (rs : List ℕ) : Type 0 where
-  pub end : ℕ
-  pub rises : Rises end a rs
-  pub short : end ≤ 4096
-  pub few : length es ≤ 4096
   pub result : s .refusal ≡ 0
   pub counted : s .count + length rs ≡ length es
   pub longest-is : max (s .longest) (greatest (lengthsFrom a rs)) ≡ longestOf es
@@ -49,58 +44,30 @@ pub record Summed (es : List ℕ) (s : Summary) (a : ℕ) (rs : List ℕ) : Type
   pub settled : greatest (lengthsFrom a rs) ≤ s .longest → s .from ≡ startOf (longestOf es) 0 es
   pub ahead : s .longest < greatest (lengthsFrom a rs) → startOf (longestOf es) a rs ≡ startOf (longestOf es) 0 es
   pub thirteen : length (s .bands) ≡ 13
-  pub banded : (k : ℕ) → k < 13 → getD (s .bands) k 0 + countOf (suc k) (bandsFrom a rs) ≡ countOf (suc k) (bandsFrom 0 es)
+  pub banded : (k : ℕ) → k < 13 → Banded es s a rs k
 
 -- ---- the start
 
-zero-at : (n k : ℕ) → getD {A = ℕ} (replicate n 0) k 0 ≡ 0
-zero-at zero k = refl
-zero-at (suc n) zero = refl
-zero-at (suc n) (suc k) = zero-at n k
-
--- a list with a part has one longer than 0
-from-none : {n : ℕ} (es : List ℕ) → Rises n 0 es → longestOf es ≤ 0 → 0 ≡ startOf (longestOf es) 0 es
+-- where no part is longer than 0, the first is among the longest
+from-none : (es : List ℕ) → longestOf es ≤ 0 → 0 ≡ startOf (longestOf es) 0 es
 unfolding lengthsFrom greatest startOf
-from-none [] r h = refl
-from-none (e ∷ es) r h = absurd (omega (arith, rises-head r))
+from-none [] h = refl
+from-none (e ∷ es) h = sym (start-here (longestOf (e ∷ es)) 0 e es (omega arith))
 
-summed-start : (es : List ℕ) → Ends es → Summed es (emptySummary 0) 0 es
-summed-start es g = record {
-  end = g .end;
-  rises = g .rises;
-  short = g .short;
-  few = omega (arith, rises-length (g .rises));
+summed-start : (es : List ℕ) → Summed es (emptySummary 0) 0 es
+summed-start es = record {
   result = refl;
   counted = omega arith;
   longest-is = omega arith;
-  settled = λ h. from-none es (g .rises) h;
+  settled = λ h. from-none es h;
   ahead = λ h. refl;
   thirteen = refl;
-  banded = λ k l. omega (arith, zero-at 13 k);
+  banded = λ k l. let z = getD-replicate {A = ℕ} 13 k 0 0 l in record { whole = omega arith; few = omega arith };
 }
 
 -- ---- one more part, of length e - a
 
-module _ (es : List ℕ) (s : Summary) (a e : ℕ) (rs : List ℕ) (g : Summed es s a (e ∷ rs)) where
-  part-length : (a < e) × (e - a ≤ 4096)
-  part-length =
-      let h : a < e = rises-head (g .rises) in
-      let m : e ≤ g .end = rises-most (rises-tail (g .rises)) in
-      (h, omega arith)
-
-  part-band : (0 < bitLength (e - a)) × (bitLength (e - a) ≤ 13)
-  part-band = (bit-length-some (e - a) (omega (arith, part-length .0)), bit-length-most (e - a) (part-length .1))
-
-  summed-room : Room s (e - a)
-  summed-room =
-      let b : bitLength (e - a) - 1 < 13 = omega (arith, part-band .1) in
-      record {
-        nonempty = omega (arith, part-length .0);
-        short = part-length .1;
-        parts = omega arith;
-        inBand = omega (arith, g .banded (bitLength (e - a) - 1) b, count-most (suc (bitLength (e - a) - 1)) 0 es);
-      }
-
+module _ (es : List ℕ) (s : Summary) (a e : ℕ) (rs : List ℕ) (g : Summed es s a (e ∷ rs)) (p : a < e) where
   longest-next : max (s .longest) (max (e - a) (greatest (lengthsFrom e rs))) ≡ longestOf es
   unfolding lengthsFrom greatest
   longest-next = g .longest-is
@@ -122,28 +89,25 @@ module _ (es : List ℕ) (s : Summary) (a e : ℕ) (rs : List ℕ) (g : Summed e
         sym (start-later (longestOf es) a e rs (λ z. omega (arith, longest-next, f .longest-is)))
         ∙ g .ahead (omega (arith, f .longest-is))
 
-    one-more : (k : ℕ) → k ≡ bitLength (e - a) - 1 → getD (t .bands) k 0 ≡ getD (s .bands) k 0 + 1
-    one-more k q = rw (f .bands-is, q) (getD-set-same (s .bands) _ _ 0 (omega (arith, g .thirteen, part-band .1)))
+    one-more : (k : ℕ) → k < 13 → k ≡ bitLength (e - a) - 1 → getD (t .bands) k 0 ≡ getD (s .bands) k 0 + 1
+    one-more k l q = rw (f .bands-is, q) (getD-set-same (s .bands) _ _ 0 (omega (arith, g .thirteen)))
 
-    banded-next : (k : ℕ) → k < 13 → getD (t .bands) k 0 + countOf (suc k) (bandsFrom e rs) ≡ countOf (suc k) (bandsFrom 0 es)
+    banded-next : (k : ℕ) → k < 13 → Banded es t e rs k
     unfolding lengthsFrom
-    banded-next k l = go (ℕ-discrete k (bitLength (e - a) - 1))
+    banded-next k l = go (ℕ-discrete k (bitLength (e - a) - 1)) (g .banded k l) (bit-length-some (e - a) (omega arith))
       where
-        go : Dec (k ≡ bitLength (e - a) - 1) → getD (t .bands) k 0 + countOf (suc k) (bandsFrom e rs) ≡ countOf (suc k) (bandsFrom 0 es)
-        go (yes q) =
-            let c = count-here (suc k) (bitLength (e - a)) (bandsFrom e rs) (omega (arith, part-band .0)) in
-            omega (arith, g .banded k l, one-more k q)
-        go (no q) =
-            let c = count-other (suc k) (bitLength (e - a)) (bandsFrom e rs) (λ z. omega (arith, part-band .0)) in
-            let d : getD (t .bands) k 0 ≡ getD (s .bands) k 0 = rw (f .bands-is) (getD-set-other (s .bands) _ k _ 0 q) in
-            omega (arith, g .banded k l)
+        go : Dec (k ≡ bitLength (e - a) - 1) → Banded es s a (e ∷ rs) k → 0 < bitLength (e - a) → Banded es t e rs k
+        go (yes q) b d =
+            let c = count-here (suc k) (bitLength (e - a)) (bandsFrom e rs) (omega arith) in
+            let m = one-more k l q in
+            record { whole = omega arith; few = omega arith }
+        go (no q) b d =
+            let c = count-other (suc k) (bitLength (e - a)) (bandsFrom e rs) (λ z. omega arith) in
+            let m : getD (t .bands) k 0 ≡ getD (s .bands) k 0 = rw (f .bands-is) (getD-set-other (s .bands) _ k _ 0 q) in
+            record { whole = omega arith; few = omega arith }
 
     summed-step : Summed es t e rs
     summed-step = record {
-      end = g .end;
-      rises = rises-tail (g .rises);
-      short = g .short;
-      few = g .few;
       result = f .refusal-is ∙ g .result;
       counted = omega (arith, f .count-is, g .counted);
       longest-is = omega (arith, longest-next, f .longest-is);
@@ -163,29 +127,35 @@ summed-end es s a g =
     bands : s .bands ≡ bandsOf es
     bands =
         ext-getD 0 (s .bands) (bandsOf es) (g .thirteen ∙ sym (bands-length es))
-        (λ k l. omega (arith, g .banded k (omega (arith, g .thirteen)), bands-at es k (omega (arith, g .thirteen))))
+        (λ k l. omega (arith, g .banded k (omega (arith, g .thirteen)) .whole, bands-at es k (omega (arith, g .thirteen))))
 
--- ---- the loop: the ends up to i are summed up
+-- ---- the loop: the ends up to i rise to last, so they are no more than last, and are summed up
 
-pub record Going (es : List ℕ) (s : Summary) (last i : ℕ) : Type 0 where
-  pub inside : i ≤ length es
+pub record Going (n : ℕ) (es : List ℕ) (s : Summary) (last i : ℕ) : Type 0 where
+  pub rising : Rising n es last i
+  pub few : s .count ≤ last
   pub summed : Summed es s last (drop i es)
 
-pub going-start : (es : List ℕ) (s : Summary) → Ends es → s ≡ emptySummary 0 → Going es s 0 0
-going-start es s g e = record { inside = omega arith; summed = rw e (summed-start es g) }
+pub going-start : (n : ℕ) (es : List ℕ) → Going n es (emptySummary 0) 0 0
+going-start n es = record { rising = rising-start n es; few = omega arith; summed = summed-start es }
 
-module _ (es : List ℕ) (s : Summary) (last i : ℕ) (g : Going es s last i) (l : i < length es) where
-  next : Summed es s last (getD es i 0 ∷ drop (suc i) es)
-  next = rw (drop-cons es i 0 l) at (g .summed)
+module _ (n : ℕ) (es : List ℕ) (s : Summary) (last i : ℕ) (g : Going n es s last i) (h : last < getD es i 0) where
+  -- another part can be counted
+  pub going-room : getD es i 0 < 65536 → (length (s .bands) ≡ 13) × ((k : ℕ) → k < 13 → getD (s .bands) k 0 < 65535)
+  going-room m = (g .summed .thirteen, λ k l. omega (arith, g .summed .banded k l .few))
 
-  pub going-past : last < getD es i 0
-  going-past = part-length es s last (getD es i 0) (drop (suc i) es) next .0
+  pub going-step : i < length es → (t : Summary) → WithFactor s last (getD es i 0 - last) t → Going n es t (getD es i 0) (i + 1)
+  going-step l t f =
+      let next : Summed es s last (getD es i 0 ∷ drop (suc i) es) = rw (drop-cons es i 0 l) at (g .summed) in
+      record {
+        rising = rising-step n es last i (g .rising) l h;
+        few = omega arith;
+        summed = rw (add-one i) (summed-step es s last (getD es i 0) (drop (suc i) es) next h t f);
+      }
 
-  pub going-room : Room s (getD es i 0 - last)
-  going-room = summed-room es s last (getD es i 0) (drop (suc i) es) next
-
-  pub going-step : (t : Summary) → WithFactor s last (getD es i 0 - last) t → Going es t (getD es i 0) (i + 1)
-  going-step t f = record { inside = omega arith; summed = rw (add-one i) (summed-step es s last (getD es i 0) (drop (suc i) es) next t f) }
-
-pub going-end : (es : List ℕ) (s : Summary) (last i : ℕ) → Going es s last i → length es ≤ i → s ≡ summaryAs 0 es
-going-end es s last i g l = summed-end es s last (rw (drop-of-length-le es {i = i} l) at (g .summed))
+pub going-end : (n : ℕ) (es : List ℕ) (s : Summary) (last i : ℕ) → Going n es s last i → length es ≤ i → last ≡ n → 0 < n
+    → s ≡ summaryAs (endsRefusal es n) es
+going-end n es s last i g l e p =
+    let none = drop-of-length-le es {i = i} l in
+    let some = rises-some (g .rising .back (rw none (done e))) p in
+    rw (rising-passes n es last i (g .rising) l e some) (summed-end es s last (rw none at (g .summed)))

@@ -1,8 +1,10 @@
 //! The summary of the parts that a list of ends marks in a record.
 use checks::Checked;
 ghost use mathlib.Core.Path.{_≡_};
+ghost use Prim.Native.Nat.{ℕ, _+_, _≤_, _<_};
+ghost use lib.ListN.{length, getD, set};
+ghost use Rattle.checks.specs.Refusals.{endsRefusal};
 ghost use Rattle.reading.specs.Summary.{bitLength, emptySummary, summaryRefusal, summaryAs};
-ghost use Rattle.reading.specs.Steps.{Ends};
 
 /// What the parts come to. Beside a refusal all fields but its number are 0.
 #[repr(C)]
@@ -20,11 +22,25 @@ pub struct Summary {
 }
 
 // The number of binary digits of n.
-fn bit_length(n: u16) -> usize
+fn bit_length(n: u16) -> u16
     ensures { λ r. ⌜ r ≡ bitLength n ⌝ }
 {
     let zeros = u16::leading_zeros(n);
-    (16 - zeros) as usize
+    (16 - zeros) as u16
+}
+
+// Counts one more part in a band; a band past the thirteen counts nowhere. Every count is gone through and gets 1 or 0, so that all stay in registers: a count
+// that is found by its index is written to memory and read back.
+fn count_in(bands: &mut [u16; 13], band: u16)
+    requires { ⌜ (length (now bands) ≡ 13) × ((k : ℕ) → k < 13 → getD (now bands) k 0 < 65535) ⌝ }
+    ensures { λ r. ⌜ now (bands .exit) ≡ set (now (bands .entry)) band (getD (now (bands .entry)) band 0 + 1) ⌝ }
+{
+    let mut k: usize = 0;
+    while k < 13 {
+        let one: u16 = if k as u16 == band { 1 } else { 0 };
+        bands[k] = bands[k] + one;
+        k += 1;
+    }
 }
 
 impl Summary {
@@ -42,11 +58,11 @@ impl Summary {
     }
 }
 
-// The summary of the parts that a list of ends marks; only a longer part takes the place of the longest. The counts are an array of the loop and not the
-// struct's, which would be copied for each part.
-fn sum_up(ends: &[u16]) -> Summary
-    requires { ⌜ Ends (now ends) ⌝ }
-    ensures { λ r. ⌜ r ≡ summaryAs 0 (now (ends .entry)) ⌝ }
+// The summary of the parts that a list of ends marks in a record of `length` letters, or refusal 7, in one pass over the list. An empty list is refused since
+// its last end counts as 0; only a longer part takes the place of the longest.
+fn sum_up(ends: &[u16], length: usize) -> Summary
+    requires { ⌜ (0 < length) × (length ≤ 4096) ⌝ }
+    ensures { λ r. ⌜ r ≡ summaryAs (endsRefusal (now (ends .entry)) length) (now (ends .entry)) ⌝ }
 {
     let mut bands = [0u16; 13];
     let mut longest: u16 = 0;
@@ -55,15 +71,20 @@ fn sum_up(ends: &[u16]) -> Summary
     let mut i: usize = 0;
     while i < ends.len() {
         let end = ends[i];
+        if end <= last {
+            return Summary::empty(7);
+        }
         let size = end - last;
-        let band = bit_length(size) - 1;
-        bands[band] = bands[band] + 1;
         if longest < size {
             longest = size;
             from = last;
         }
+        count_in(&mut bands, bit_length(size) - 1);
         last = end;
         i += 1;
+    }
+    if last != length as u16 {
+        return Summary::empty(7);
     }
     Summary {
         refusal: 0,
@@ -82,9 +103,5 @@ pub fn summarize(word: &[u8], ends: &[u16]) -> Summary
     let Checked::Passed = recorded else {
         return Summary::empty(recorded.number());
     };
-    let listed = checks::check_ends(ends, word.len());
-    let Checked::Passed = listed else {
-        return Summary::empty(listed.number());
-    };
-    sum_up(ends)
+    sum_up(ends, word.len())
 }
