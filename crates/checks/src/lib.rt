@@ -78,24 +78,32 @@ pub fn check_range(length: usize, first: usize, end: usize) -> Checked
     Checked::Passed
 }
 
-/// Line 7: a list of ends for a record of `length` letters.
+/// Line 7: a list of ends for a record of `length` letters. Two ends in a step: a step costs the processor a jump.
 pub fn check_ends(ends: &[u16], length: usize) -> Checked
     ensures { λ r. ⌜ r ≡ checkedAs (endsRefusal (now (ends .entry)) length) ⌝ }
 {
     if ends.len() == 0 {
         return Checked::Refused(7);
     }
-    let mut last: usize = 0;
+    let mut last: u16 = 0;
     let mut i: usize = 0;
-    while i < ends.len() {
-        let end = ends[i] as usize;
+    while 2 <= ends.len() - i {
+        let end = ends[i];
+        let next = ends[i + 1];
+        if end <= last || next <= end {
+            return Checked::Refused(7);
+        }
+        last = next;
+        i += 2;
+    }
+    if i < ends.len() {
+        let end = ends[i];
         if end <= last {
             return Checked::Refused(7);
         }
         last = end;
-        i += 1;
     }
-    if last != length {
+    if last as usize != length {
         return Checked::Refused(7);
     }
     Checked::Passed
