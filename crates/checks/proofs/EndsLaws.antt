@@ -2,7 +2,7 @@
 use mathlib.Core.Path.{_≡_, refl}
 use mathlib.Core.Bool.{Bool, true, false, not, _&&_, _||_}
 use mathlib.Core.List.{List, [], _∷_}
-use Prim.Native.Nat.{ℕ, suc, _+_, _≤_, _<_}
+use Prim.Native.Nat.{ℕ, suc, _+_, _-_, _≤_, _<_}
 use native.Mathlib.Numerals.{add-one}
 use native.Mathlib.Omega.{arith}
 use lib.ListN.{length, drop, getD, drop-of-length-le}
@@ -28,6 +28,14 @@ rises-end (done e) = e
 pub rises-most : {n a : ℕ} {es : List ℕ} → Rises n a es → a ≤ n
 rises-most (done e) = omega arith
 rises-most (more h r) = omega (arith, rises-most r)
+
+-- the last end is n
+rises-last : {n a : ℕ} {es : List ℕ} → Rises n a es → 0 < length es → getD es (length es - 1) 0 ≡ n
+rises-last (done e) p = absurd (omega arith)
+rises-last (more h (done e)) p = e
+rises-last {es = a ∷ b ∷ es} (more h (more k r)) p =
+    let z : suc (suc (length es)) - 1 ≡ suc (suc (length es) - 1) = omega arith in
+    rw z (rises-last {es = b ∷ es} (more k r) (omega arith))
 
 -- ---- the definition decides it
 
@@ -61,15 +69,17 @@ ends-view (e ∷ es) n = go (rising (e ∷ es)) (eqb (lastOf e es) n) (eqb-test 
 
 pub record Rising (n : ℕ) (es : List ℕ) (last i : ℕ) : Type 0 where
   pub inside : i ≤ length es
+  pub at : 0 < i → last ≡ getD es (i - 1) 0
   pub on : Rises n 0 es → Rises n last (drop i es)
   pub back : Rises n last (drop i es) → Rises n 0 es
 
 pub rising-start : (n : ℕ) (es : List ℕ) → Rising n es 0 0
-rising-start n es = record { inside = omega arith; on = λ r. r; back = λ r. r }
+rising-start n es = record { inside = omega arith; at = λ h. absurd (omega arith); on = λ r. r; back = λ r. r }
 
 pub rising-step : (n : ℕ) (es : List ℕ) (last i : ℕ) → Rising n es last i → i < length es → last < getD es i 0 → Rising n es (getD es i 0) (i + 1)
 rising-step n es last i g l h = record {
   inside = omega arith;
+  at = λ k. let z : i + 1 - 1 ≡ i = omega arith in rw z;
   on = λ r. rw (add-one i) (rises-tail (rw (drop-cons es i 0 l) at (g .on r)));
   back = λ r. g .back (rw (drop-cons es i 0 l) (more h (rw (add-one i) at r)));
 }
@@ -94,6 +104,13 @@ rising-passes n es last i g l h p = go (ends-view es n)
     go : {k : ℕ} → EndsView es n k → k ≡ 0
     go (valid q r) = refl
     go (invalid m) = absurd (m p (g .back (rw (drop-of-length-le es {i = i} l) (done h))))
+
+pub last-fails : (n : ℕ) (es : List ℕ) → 0 < length es → ¬ (getD es (length es - 1) 0 ≡ n) → endsRefusal es n ≡ 7
+last-fails n es l h = go (ends-view es n)
+  where
+    go : {k : ℕ} → EndsView es n k → k ≡ 7
+    go (valid p r) = absurd (h (rises-last r l))
+    go (invalid m) = refl
 
 pub empty-fails : (n : ℕ) (es : List ℕ) → length es ≡ 0 → endsRefusal es n ≡ 7
 unfolding endsRefusal

@@ -153,9 +153,13 @@ module _ (n : ℕ) (es : List ℕ) (s : Summary) (last i : ℕ) (g : Going n es 
         summed = rw (add-one i) (summed-step es s last (getD es i 0) (drop (suc i) es) next h t f);
       }
 
-pub going-end : (n : ℕ) (es : List ℕ) (s : Summary) (last i : ℕ) → Going n es s last i → length es ≤ i → last ≡ n → 0 < n
-    → s ≡ summaryAs (endsRefusal es n) es
-going-end n es s last i g l e p =
-    let none = drop-of-length-le es {i = i} l in
-    let some = rises-some (g .rising .back (rw none (done e))) p in
-    rw (rising-passes n es last i (g .rising) l e some) (summed-end es s last (rw none at (g .summed)))
+-- the list is read, and its last end is n
+module _ (n : ℕ) (es : List ℕ) (s : Summary) (last i : ℕ) (g : Going n es s last i) (l : length es ≤ i) (e : getD es (length es - 1) 0 ≡ n) (p : 0 < length es) where
+  ended : last ≡ n
+  ended = let whole : i ≡ length es = omega (arith, g .rising .inside) in g .rising .at (omega arith) ∙ rw whole e
+
+  pub going-most : s .count ≤ n
+  going-most = omega (arith, g .few, ended)
+
+  pub going-end : s ≡ summaryAs (endsRefusal es n) es
+  going-end = rw (rising-passes n es last i (g .rising) l ended p) (summed-end es s last (rw (drop-of-length-le es {i = i} l) at (g .summed)))

@@ -58,18 +58,25 @@ impl Summary {
     }
 }
 
-// The summary of the parts that a list of ends marks in a record of `length` letters, or refusal 7, in one pass over the list. An empty list is refused since
-// its last end counts as 0; only a longer part takes the place of the longest.
+// The summary of the parts that a list of ends marks in a record of `length` letters, or refusal 7, in one pass over the list. Only a longer part takes the
+// place of the longest.
 fn sum_up(ends: &[u16], length: usize) -> Summary
-    requires { ⌜ (0 < length) × (length ≤ 4096) ⌝ }
+    requires { ⌜ length ≤ 4096 ⌝ }
     ensures { λ r. ⌜ r ≡ summaryAs (endsRefusal (now (ends .entry)) length) (now (ends .entry)) ⌝ }
 {
+    let n = ends.len();
+    if n == 0 {
+        return Summary::empty(7);
+    }
+    if ends[n - 1] as usize != length {
+        return Summary::empty(7);
+    }
     let mut bands = [0u16; 13];
     let mut longest: u16 = 0;
     let mut from: u16 = 0;
     let mut last: u16 = 0;
     let mut i: usize = 0;
-    while i < ends.len() {
+    while i < n {
         let end = ends[i];
         if end <= last {
             return Summary::empty(7);
@@ -82,9 +89,6 @@ fn sum_up(ends: &[u16], length: usize) -> Summary
         count_in(&mut bands, bit_length(size) - 1);
         last = end;
         i += 1;
-    }
-    if last != length as u16 {
-        return Summary::empty(7);
     }
     Summary {
         refusal: 0,

@@ -6,19 +6,43 @@ use mathlib.Core.Logic.{⊎-elim}
 use Prim.Native.Nat.{_-_}
 use native.Mathlib.Omega.{arith}
 use lib.ListN.{length}
-use Rattle.checks.proofs.EndsLaws.{rising-fails, rising-ends}
+use Rattle.checks.proofs.EndsLaws.{rising-fails, last-fails, empty-fails}
 use Rattle.reading.proofs.BitLengths.{bit-length-some}
 use Rattle.reading.proofs.SummaryAnswers.{ends-refused}
-use Rattle.reading.proofs.Summing.{Going, going-start, going-room, going-step, going-end}
+use Rattle.reading.proofs.Summing.{Going, going-start, going-room, going-step, going-most, going-end}
 use Rattle.reading.proofs.summary.sum_up.Statement.{statement}
 use Rattle.reading.proofs.summary.sum_up.Tie as tie
 
 abbrev Inv-loop : tie.InvT-loop
-Inv-loop ends n bands₀ longest₀ from₀ last₀ i₀ bands longest from last i =
-    Going n ends (record { refusal = 0; count = i; longest = longest; from = from; bands = bands }) last i
+Inv-loop ends length n bands₀ longest₀ from₀ last₀ i₀ bands longest from last i =
+    Going length ends (record { refusal = 0; count = i; longest = longest; from = from; bands = bands }) last i
 
 abbrev μ-loop : tie.MeasureT-loop
-μ-loop ends n bands₀ longest₀ from₀ last₀ i₀ bands longest from last i = length ends - i
+μ-loop ends length n bands₀ longest₀ from₀ last₀ i₀ bands longest from last i = n - i
+
+empty-requires : tie.Need-empty-requires Inv-loop μ-loop
+empty-requires c κs = search needs
+
+returns : tie.Need-returns Inv-loop μ-loop
+returns c = ends-refused _ _ _ (empty-fails _ _ (c .before .if1 .taken)) (c .empty .ensures)
+
+sub-if2 : tie.Need-sub-if2 Inv-loop μ-loop
+sub-if2 c = search needs
+
+mul-if2 : tie.Need-mul-if2 Inv-loop μ-loop
+mul-if2 c = search needs
+
+shared-slice-read-if2 : tie.Need-shared-slice-read-if2 Inv-loop μ-loop
+shared-slice-read-if2 c = search needs
+
+cast-if2 : tie.Need-cast-if2 Inv-loop μ-loop
+cast-if2 c = omega (arith, c .shared-slice-known2 .given (length (c .before .before .before .args .ends .now) - 1) .fits)
+
+empty-requires-2 : tie.Need-empty-requires-2 Inv-loop μ-loop
+empty-requires-2 c κs = search needs
+
+returns-2 : tie.Need-returns-2 Inv-loop μ-loop
+returns-2 c = ends-refused _ _ _ (last-fails _ _ (omega (arith, c .before .before .before .if1 .left)) (c .before .if2 .taken)) (c .empty2 .ensures)
 
 loop-holds : tie.Need-loop-holds Inv-loop μ-loop
 loop-holds c = going-start _ _
@@ -29,13 +53,13 @@ mul-end c = search needs
 shared-slice-read-end : tie.Need-shared-slice-read-end Inv-loop μ-loop
 shared-slice-read-end c = search needs
 
-empty-requires : tie.Need-empty-requires Inv-loop μ-loop
-empty-requires c κs = search needs
+empty-requires-3 : tie.Need-empty-requires-3 Inv-loop μ-loop
+empty-requires-3 c κs = search needs
 
-returns : tie.Need-returns Inv-loop μ-loop
-returns c =
+returns-3 : tie.Need-returns-3 Inv-loop μ-loop
+returns-3 c =
     let turn = c .before .before .before in
-    ends-refused _ _ _ (rising-fails _ _ _ _ (turn .before .loop .inv .rising) (turn .loop-test .taken) (omega arith)) (c .empty .ensures)
+    ends-refused _ _ _ (rising-fails _ _ _ _ (turn .before .loop .inv .rising) (turn .loop-test .taken) (omega arith)) (c .empty3 .ensures)
 
 sub-size : tie.Need-sub-size Inv-loop μ-loop
 sub-size c = search needs
@@ -50,7 +74,7 @@ count-in-requires : tie.Need-count-in-requires Inv-loop μ-loop
 count-in-requires c κs =
     let rises = c .before .before .before in
     let read = rises .before in
-    going-room _ _ _ _ _ (read .before .before .loop .inv) (rises .if1 .left) (read .shared-slice-known2 .given _ .fits)
+    going-room _ _ _ _ _ (read .before .before .loop .inv) (rises .if3 .left) (read .shared-slice-known3 .given _ .fits)
 
 add-i : tie.Need-add-i Inv-loop μ-loop
 add-i c = search needs
@@ -63,7 +87,7 @@ loop-again c =
     let compared = c .before .before .before in
     let rises = compared .before in
     let turn = rises .before .before in
-    going-step _ _ _ _ _ (turn .before .loop .inv) (rises .if1 .left) (turn .loop-test .taken) _
+    going-step _ _ _ _ _ (turn .before .loop .inv) (rises .if3 .left) (turn .loop-test .taken) _
     (⊎-elim
     (λ w. record {
       refusal-is = refl;
@@ -81,26 +105,18 @@ loop-again c =
       not-longer = λ h. w .2;
       bands-is = rw (← c .before .bit-length .ensures) (c .count-in .ensures);
     })
-    (compared .if2 .came))
+    (compared .if4 .came))
 
-cast-if3 : tie.Need-cast-if3 Inv-loop μ-loop
-cast-if3 c = search needs
+cast-t15 : tie.Need-cast-t15 Inv-loop μ-loop
+cast-t15 c =
+    let tests = c .before .before in
+    let most = going-most _ _ _ _ _ (c .before .loop .inv) (c .loop-test .left) (tests .if2 .left) (omega (arith, tests .before .before .if1 .left)) in
+    omega (arith, most, tests .before .before .before .before .pre)
 
-empty-requires-2 : tie.Need-empty-requires-2 Inv-loop μ-loop
-empty-requires-2 c κs = search needs
-
-returns-2 : tie.Need-returns-2 Inv-loop μ-loop
-returns-2 c =
-    let end = c .before .before in
-    ends-refused _ _ _ (rising-ends _ _ _ _ (end .before .loop .inv .rising) (end .loop-test .left) (c .before .if3 .taken)) (c .empty2 .ensures)
-
-cast-t17 : tie.Need-cast-t17 Inv-loop μ-loop
-cast-t17 c = search needs
-
-returns-3 : tie.Need-returns-3 Inv-loop μ-loop
-returns-3 c =
-    let end = c .before in
-    going-end _ _ _ _ _ (end .before .loop .inv) (end .loop-test .left) (c .if3 .left) (end .before .before .before .pre .0)
+returns-4 : tie.Need-returns-4 Inv-loop μ-loop
+returns-4 c =
+    let tests = c .before .before in
+    going-end _ _ _ _ _ (c .before .loop .inv) (c .loop-test .left) (tests .if2 .left) (omega (arith, tests .before .before .if1 .left))
 
 pub sum-up-spec : {M : Type 1} → statement M
 sum-up-spec =
@@ -108,11 +124,19 @@ sum-up-spec =
     (tie.spec
     Inv-loop
     μ-loop
+    empty-requires
+    returns
+    sub-if2
+    mul-if2
+    shared-slice-read-if2
+    cast-if2
+    empty-requires-2
+    returns-2
     loop-holds
     mul-end
     shared-slice-read-end
-    empty-requires
-    returns
+    empty-requires-3
+    returns-3
     sub-size
     bit-length-requires
     sub-count-in
@@ -120,8 +144,5 @@ sum-up-spec =
     add-i
     loop-less
     loop-again
-    cast-if3
-    empty-requires-2
-    returns-2
-    cast-t17
-    returns-3)
+    cast-t15
+    returns-4)

@@ -34,7 +34,7 @@ returns c =
     ∙ record-refused _ _ _ (refused .before .check-record .ensures) (refused .match .keys2)
 
 sum-up-requires : tie.Need-sum-up-requires
-sum-up-requires c κs = let fit = record-accepted _ (accepted c) in (fit .nonempty, fit .short)
+sum-up-requires c κs = record-accepted _ (accepted c) .short
 
 returns-2 : tie.Need-returns-2
 returns-2 c = rw (record-passed _ _ (accepted (c .before))) (c .sum-up .ensures)
