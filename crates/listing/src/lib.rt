@@ -3,7 +3,6 @@ mod text;
 
 use checks::Counted;
 use checks::MOST;
-ghost use mathlib.Core.Path.{_≡_};
 ghost use Rattle.listing.specs.Listing.{listingOf, Listed};
 ghost use Rattle.listing.specs.Writing.{Wrote, CutLists, Roomy};
 

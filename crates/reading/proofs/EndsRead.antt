@@ -1,5 +1,5 @@
 -- What an accepted list of ends tells: it rises to the record's length (ends-accepted), so its parts are not empty and lie in the record
--- (rises-at), and it has one (rises-some).
+-- (rises-at).
 use mathlib.Core.Path.{_≡_}
 use mathlib.Core.List.{List, _∷_}
 use Prim.Native.Nat.{ℕ, zero, suc, _≤_, _<_}
@@ -20,7 +20,3 @@ pub rises-at : {n a : ℕ} {es : List ℕ} → Rises n a es → (k : ℕ) → k 
 rises-at (done e) k l = absurd (omega arith)
 rises-at (more h r) zero l = (h, rises-most r)
 rises-at (more h r) (suc k) l = rises-at r k (omega arith)
-
-pub rises-some : {n a : ℕ} {es : List ℕ} → Rises n a es → a < n → 0 < length es
-rises-some (done e) l = absurd (omega arith)
-rises-some (more h r) l = omega arith

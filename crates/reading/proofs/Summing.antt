@@ -10,11 +10,10 @@ use native.Mathlib.Numerals.{add-one}
 use lib.ListN.{length, drop, getD, set, length-set, drop-of-length-le, getD-replicate}
 use lib.Seq.{drop-cons, getD-set-same, getD-set-other, ext-getD}
 use Rattle.checks.specs.Refusals.{endsRefusal}
-use Rattle.checks.proofs.EndsLaws.{done, Rising, rising-start, rising-step, rising-passes}
+use Rattle.checks.proofs.EndsLaws.{Rising, rising-start, rising-step, rising-passes}
 use Rattle.reading.specs.Summary.{lengthsFrom, greatest, startOf, bitLength, countOf, bandsOf, emptySummary, summaryAs}
 use Rattle.reading.specs.declared.summary.Summary.{Summary}
 use Rattle.reading.proofs.BitLengths.{bit-length-some}
-use Rattle.reading.proofs.EndsRead.{rises-some}
 use Rattle.reading.proofs.SummaryLaws.{bandsFrom, start-here, start-later, count-here, count-other, bands-length, bands-at, same-summary}
 
 -- r is s with one more part, of length n from start on

@@ -68,7 +68,7 @@ fn sum_up(ends: &[u16], length: usize) -> Summary
     if n == 0 {
         return Summary::empty(7);
     }
-    if ends[n - 1] as usize != length {
+    if ends[n - 1] != length as u16 {
         return Summary::empty(7);
     }
     let mut bands = [0u16; 13];

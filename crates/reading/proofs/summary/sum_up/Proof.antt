@@ -5,7 +5,6 @@ use mathlib.Core.Path.{refl}
 use mathlib.Core.Logic.{⊎-elim}
 use Prim.Native.Nat.{_-_}
 use native.Mathlib.Omega.{arith}
-use lib.ListN.{length}
 use Rattle.checks.proofs.EndsLaws.{rising-fails, last-fails, empty-fails}
 use Rattle.reading.proofs.BitLengths.{bit-length-some}
 use Rattle.reading.proofs.SummaryAnswers.{ends-refused}
@@ -36,7 +35,7 @@ shared-slice-read-if2 : tie.Need-shared-slice-read-if2 Inv-loop μ-loop
 shared-slice-read-if2 c = search needs
 
 cast-if2 : tie.Need-cast-if2 Inv-loop μ-loop
-cast-if2 c = omega (arith, c .shared-slice-known2 .given (length (c .before .before .before .args .ends .now) - 1) .fits)
+cast-if2 c = search needs
 
 empty-requires-2 : tie.Need-empty-requires-2 Inv-loop μ-loop
 empty-requires-2 c κs = search needs
