@@ -1,5 +1,5 @@
-//! Paper 01's table of refusals, a function for each place of a check. A call tries its lines in the table's order and passes a
-//! refusal up with its number unchanged.
+//! Paper 01's table of refusals, a function for each place of a check; the comparison looks at its starts, line 6, itself. A call tries
+//! its lines in the table's order and passes a refusal up with its number unchanged.
 ghost use mathlib.Core.Path.{_≡_};
 ghost use Rattle.checks.specs.Refusals.{recordRefusal, workRefusal, resultRefusal, rangeRefusal, endsRefusal, numberRefusal};
 ghost use Rattle.checks.specs.Answers.{checkedAs, numberOf};
