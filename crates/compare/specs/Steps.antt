@@ -1,7 +1,6 @@
 -- What the comparison's inner functions ask and promise. No call's promise cites this file.
 use mathlib.Core.Path.{_≡_}
 use mathlib.Core.List.{List}
-use mathlib.Core.Bool.{Bool, true}
 use Prim.Native.Nat.{ℕ, _+_, _≤_, _<_}
 use lib.ListN.{length, getD}
 
@@ -16,6 +15,9 @@ pub record Matched (x y : List ℕ) (l : ℕ) : Type 0 where
   pub right : l ≤ length y
   pub equal : (t : ℕ) → t < l → getD x t 0 ≡ getD y t 0
 
--- if r says so, the next four are equal too
-abbrev pub FourMore : List ℕ → List ℕ → ℕ → Bool → Type 0
-FourMore x y l r = r ≡ true → Matched x y l → Matched x y (l + 4)
+-- the four letters from l on are equal
+pub record FourEqual (x y : List ℕ) (l : ℕ) : Type 0 where
+  pub first : getD x l 0 ≡ getD y l 0
+  pub second : getD x (l + 1) 0 ≡ getD y (l + 1) 0
+  pub third : getD x (l + 2) 0 ≡ getD y (l + 2) 0
+  pub fourth : getD x (l + 3) 0 ≡ getD y (l + 3) 0

@@ -1,8 +1,9 @@
 //! How far two words agree.
 ghost use mathlib.Core.Path.{_≡_};
 ghost use Prim.Native.Nat.{_+_, min};
+ghost use Rattle.words.specs.Decisions.{Decides};
 ghost use Rattle.compare.specs.Compare.{commonLength};
-ghost use Rattle.compare.specs.Steps.{BothHave, Matched, FourMore};
+ghost use Rattle.compare.specs.Steps.{BothHave, Matched, FourEqual};
 
 /// The smaller of two lengths.
 pub fn shorter(m: usize, n: usize) -> usize
@@ -11,11 +12,10 @@ pub fn shorter(m: usize, n: usize) -> usize
     if m < n { m } else { n }
 }
 
-// Whether the four bytes from l on agree. Their differences are joined, and the compiler makes one comparison of the four. Promised is only what
-// the caller leans on: a wrong false would cost time, and nothing else.
+// Whether the four bytes from l on agree. Their differences are joined, and the compiler makes one comparison of the four.
 fn four_agree(x: &[u8], y: &[u8], l: usize) -> bool
     requires { ⌜ BothHave (now x) (now y) (l + 4) ⌝ }
-    ensures { λ r. ⌜ FourMore (now (x .entry)) (now (y .entry)) l r ⌝ }
+    ensures { λ r. ⌜ Decides (FourEqual (now (x .entry)) (now (y .entry)) l) r ⌝ }
 {
     let near = (x[l] ^ y[l]) | (x[l + 1] ^ y[l + 1]);
     let far = (x[l + 2] ^ y[l + 2]) | (x[l + 3] ^ y[l + 3]);

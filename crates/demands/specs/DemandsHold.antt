@@ -27,7 +27,7 @@ use Rattle.compare.specs.Compare.{compareRefusal, comparisonAs}
 use Rattle.reading.specs.Factor.{factorRefusal}
 use Rattle.reading.specs.Summary.{summaryRefusal, summaryAs}
 use Rattle.demands.specs.Demands.{countRefusal, testRefusal, signRefusal, Answers, Demand1, Wrote, Demand2, Demand3, Runs}
-use Rattle.compare.proofs.ComparisonLaws.{all-pass}
+use Rattle.compare.proofs.ComparisonLaws.{Within, all-pass}
 use Rattle.demands.specs.Lines.{AllListed, none, more, first-listed}
 use Rattle.demands.specs.Lines.{record-listed, work-listed, result-listed, range-listed, start-listed, ends-listed, number-listed}
 
@@ -128,7 +128,8 @@ module _ (w es ss : List ℕ) (compare : ℕ → ℕ → ℕ → ℕ → Compari
   signs : (first end start other : ℕ) → end ≤ length w → first ≤ start → start < end → first ≤ other → other < end
       → compare first end start other ≡ Comparison.Sign (sign w first end start other)
   signs first end start other l a b c d =
-      r .comparison first end start other ∙ rw (all-pass w first end start other (record { short = r .short; inside = l; start-from = a; start-below = b; other-from = c; other-below = d }))
+      let within : Within w first end start other = record { short = r .short; inside = l; start-from = a; start-below = b; other-from = c; other-below = d } in
+      r .comparison first end start other ∙ rw (all-pass w first end start other within)
 
   module _ (first end start other : ℕ) (h : List·Memᴰ end es) (a : first ≤ start) (b : start < end) (c : first ≤ other) (d : other < end) (n : ¬ (start ≡ other)) where
     inside : end ≤ length w

@@ -1,7 +1,6 @@
--- All four letters are there; joined differences of 0 make them equal.
+-- All four letters are there; their joined differences are 0 just where they are equal.
 use borrow.Author.Needs.{needs}
-use borrow.Author.Tests.{eqb-true}
-use Rattle.compare.proofs.FourLaws.{four-more}
+use Rattle.compare.proofs.FourLaws.{four-decides}
 use Rattle.compare.proofs.common.four_agree.Statement.{statement}
 use Rattle.compare.proofs.common.four_agree.Tie as tie
 
@@ -48,9 +47,7 @@ shared-slice-read-far-4 : tie.Need-shared-slice-read-far-4
 shared-slice-read-far-4 c = search needs
 
 returns : tie.Need-returns
-returns c e g =
-    let start = c .before .before .before .before .before .before .before .before in
-    four-more _ _ _ (start .pre) (eqb-true _ _ e) g
+returns c = four-decides _ _ _
 
 pub four-agree-spec : {M : Type 1} → statement M
 four-agree-spec =

@@ -1,10 +1,12 @@
 -- The letters gone over are equal; a step is made where four more of them are there and equal.
 use borrow.Author.Needs.{needs}
-use Prim.Native.Nat.{_-_}
+use Prim.Native.Nat.{_+_, _-_}
 use native.Mathlib.Omega.{arith}
 use borrow.Author.Tests.{not-false}
-use Rattle.compare.specs.Steps.{Matched}
+use Rattle.words.specs.Decisions.{decides-true}
+use Rattle.compare.specs.Steps.{BothHave, Matched}
 use Rattle.compare.proofs.CommonLength.{matched-none}
+use Rattle.compare.proofs.FourLaws.{four-more}
 use Rattle.compare.proofs.common.skip_fours.Statement.{statement}
 use Rattle.compare.proofs.common.skip_fours.Tie as tie
 
@@ -13,6 +15,12 @@ Inv-loop x y most l₀ l = Matched x y l
 
 abbrev μ-loop : tie.MeasureT-loop
 μ-loop x y most l₀ l = most - l
+
+-- four letters are left of both words
+more : (c : tie.In-loop Inv-loop μ-loop) → let a = c .before .before .before .before .before .args in BothHave (a .x .now) (a .y .now) (c .before .loop .l + 4)
+more c =
+    let m = c .before .before .shorter .ensures in
+    record { left = omega (arith, m, c .loop-test .taken); right = omega (arith, m, c .loop-test .taken) }
 
 shorter-requires : tie.Need-shorter-requires Inv-loop μ-loop
 shorter-requires c κs = search needs
@@ -24,9 +32,7 @@ sub-loop : tie.Need-sub-loop Inv-loop μ-loop
 sub-loop c = omega (arith, c .before .shorter .ensures, c .loop .inv .left, c .loop .inv .right)
 
 four-agree-requires : tie.Need-four-agree-requires Inv-loop μ-loop
-four-agree-requires c κs =
-    let m = c .before .before .shorter .ensures in
-    record { left = omega (arith, m, c .loop-test .taken); right = omega (arith, m, c .loop-test .taken) }
+four-agree-requires c κs = more c
 
 returns : tie.Need-returns Inv-loop μ-loop
 returns c = c .before .before .before .loop .inv
@@ -38,7 +44,9 @@ loop-less : tie.Need-loop-less Inv-loop μ-loop
 loop-less c = search needs
 
 loop-again : tie.Need-loop-again Inv-loop μ-loop
-loop-again c = c .before .four-agree .ensures (not-false _ (c .if1 .left)) (c .before .before .before .loop .inv)
+loop-again c =
+    let turn = c .before .before in
+    four-more _ _ _ (more turn) (decides-true (c .before .four-agree .ensures) (not-false _ (c .if1 .left))) (turn .before .loop .inv)
 
 returns-2 : tie.Need-returns-2 Inv-loop μ-loop
 returns-2 c = c .before .loop .inv
