@@ -1,9 +1,9 @@
 //! The records on which the calls are compared.
-use super::draw::draw;
 use super::records::on_record;
-use super::shapes;
 use naive::minus;
 use naive::plus;
+use trials::draw::draw;
+use trials::shapes;
 
 // Room for the longest record.
 const ROOM: usize = 4100;

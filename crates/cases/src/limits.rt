@@ -1,11 +1,11 @@
 //! The boundaries of the refusals 1 to 4: records of 0, 1, 2, 9, 4,095, 4,096 and 4,097 letters, and each buffer with no entry, one too few, as many as
 //! needed, and one more.
-use super::buffers::near;
-use super::filling;
 use super::inputs;
-use super::tally;
-use super::testing;
 use naive::front;
+use trials::buffers::near;
+use trials::filling;
+use trials::tally;
+use trials::testing;
 
 /// A length at the boundaries.
 pub fn length_at(which: usize) -> usize {

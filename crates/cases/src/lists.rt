@@ -1,12 +1,12 @@
 //! The boundaries of the reader's and the summary's refusals: lists of ends with each fault, alone and beside others.
 use super::inputs;
 use super::limits;
-use super::parting;
-use super::tally;
 use naive::front;
 use naive::minus;
 use naive::plus;
 use naive::store;
+use trials::parting;
+use trials::tally;
 
 const LARGEST: usize = 18446744073709551615;
 

@@ -1,10 +1,10 @@
 //! The boundaries of the comparison's refusals.
-use super::comparing;
 use super::inputs;
 use super::limits;
-use super::tally;
 use naive::minus;
 use naive::plus;
+use trials::comparing;
+use trials::tally;
 
 const LARGEST: usize = 18446744073709551615;
 

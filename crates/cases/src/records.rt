@@ -1,12 +1,12 @@
 //! All calls on one record.
-use super::buffers;
-use super::comparing;
-use super::filling;
-use super::parting;
-use super::tally;
-use super::testing;
 use naive::front;
 use naive::plus;
+use trials::buffers;
+use trials::comparing;
+use trials::filling;
+use trials::parting;
+use trials::tally;
+use trials::testing;
 
 // Records up to this length go by the definitions too, which take cubic time; longer ones by the faster second ways alone.
 const SHORT: usize = 300;
