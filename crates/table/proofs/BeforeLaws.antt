@@ -1,16 +1,19 @@
--- What the code reads of two words tells their inverse order: a letter where they differ, or else their lengths. A single letter as
--- the first word is the case of a common length of at most 1.
-use mathlib.Core.Path.{_≡_, refl, sym}
+-- What the code reads of two words tells their inverse order: a letter where they differ, or else their lengths. For neighbours in a
+-- word that may be their first letters. A single letter as the first word is the case of a common length of at most 1.
+use mathlib.Core.Path.{_≡_, refl, sym, _∙_}
 use mathlib.Core.List.{List, [], _∷_}
 use mathlib.Core.Bool.{Bool, true, false}
-use Prim.Native.Nat.{ℕ, suc, _≤_, _<_, min}
+use Prim.Native.Nat.{ℕ, suc, _-_, _≤_, _<_, min}
+use native.Mathlib.Nat.{add-zero}
 use native.Mathlib.Omega.{arith}
-use lib.ListN.{length, getD}
+use lib.ListN.{length, take, drop, getD, length-drop}
+use lib.Seq.{getD-take, getD-drop, length-take-le}
 use lib.Dec.{ltb}
 use Rattle.words.specs.Words.{_≺_, mismatch, isInverseBefore}
 use Rattle.words.specs.InverseLaws.{_≼_, won, pre, ≼-antisym, ≺-≼, ≺-irrefl}
 use Rattle.words.specs.Decisions.{Decides, holds, fails, true-decides, false-decides, leb-test}
 use Rattle.words.specs.WordTests.{inverse-before-test}
+use Rattle.table.specs.Steps.{Neighbours}
 use Rattle.compare.proofs.CommonLength.{Agree, matched-none, matched-more, agree-sym, agree-⊑, agree-shorter, agree-≪, agree-≪-sym}
 
 before-true : {u v : List ℕ} → u ≺ v → true ≡ isInverseBefore u v
@@ -37,6 +40,23 @@ module _ {u v : List ℕ} {l : ℕ} (g : Agree u v l) where
       go : {t : Bool} → Decides (length u < length v) t → t ≡ isInverseBefore u v
       go (holds h) = before-true (agree-shorter g (omega arith) h)
       go (fails h) = before-false (pre (agree-⊑ (agree-sym g) (omega arith)))
+
+-- ---- neighbours in a word
+
+module _ (w : List ℕ) (i j n : ℕ) (x : Neighbours w i j n) where
+  first : (k m : ℕ) → 0 < m → getD (take m (drop k w)) 0 0 ≡ getD w k 0
+  first k m p = getD-take m (drop k w) 0 0 p ∙ getD-drop k w 0 0 ∙ rw (add-zero k)
+
+  -- the first letters differ
+  pub first-decide : ¬ (getD w j 0 ≡ getD w i 0) → ltb (getD w j 0) (getD w i 0) ≡ isInverseBefore (take (j - i) (drop i w)) (take n (drop j w))
+  first-decide d =
+      let a = first i (j - i) (omega (arith, x .left)) in
+      let b = first j n (x .right) in
+      let l = length-take-le (j - i) (drop i w) (rw (length-drop i w) (omega (arith, x .left, x .inside))) in
+      let m = length-take-le n (drop j w) (rw (length-drop j w) (omega (arith, x .inside))) in
+      rw (a, b) at
+      (letters-decide {u = take (j - i) (drop i w)} {v = take n (drop j w)} {l = 0}
+      (record { matched = matched-none _ _; differ = λ h k e. d (sym b ∙ sym e ∙ a) }) (omega (arith, l, m, x .left, x .right)))
 
 -- ---- a letter and a word
 

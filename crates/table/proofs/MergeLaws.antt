@@ -35,9 +35,9 @@ module _ {w : List ℕ} {i j : ℕ} (x : Merged w i j) where
         let p : 0 < longestAntiLyndon (drop j w) = longest-positive (drop j w) (rw length-drop (omega arith)) in
         (omega (arith, entry), omega (arith, entry, longest-is (drop j w) .upto, length-drop j w))
 
-    module _ {r : Bool} (e : r ≡ isInverseBefore (take (j - i) (drop i w)) (take (j + m - j) (drop j w))) where
+    module _ {r : Bool} (e : r ≡ isInverseBefore (take (j - i) (drop i w)) (take m (drop j w))) where
       test : r ≡ isInverseBefore (take (j - i) (drop i w)) (take (longestAntiLyndon (drop j w)) (drop j w))
-      test = let n : j + m - j ≡ longestAntiLyndon (drop j w) = omega (arith, entry) in rw n at e
+      test = rw entry at e
 
       pub turn-joins : r ≡ true → Merged w i (j + m)
       turn-joins h = rw entry (merged-more w i j x l (decides-true (inverse-before-test _ _) (sym test ∙ h)))
@@ -63,8 +63,8 @@ module _ (w : List ℕ) (i next : ℕ) (s : i < length w) (d : next ≡ getD (ly
       go (no n) = omega (arith, d ∙ table-end w (i + 1) (omega arith))
 
   module _ {r : Bool} (e : r ≡ isInverseBefore (getD w i 0 ∷ []) (take (i + 1 + next - (i + 1)) (drop (i + 1) w))) where
-    letter-test : r ≡ isInverseBefore (take (i + 1 - i) (drop i w)) (take (i + 1 + next - (i + 1)) (drop (i + 1) w))
-    letter-test = rw (letter-word w i s) e
+    letter-test : r ≡ isInverseBefore (take (i + 1 - i) (drop i w)) (take next (drop (i + 1) w))
+    letter-test = let n : i + 1 + next - (i + 1) ≡ next = omega arith in rw (letter-word w i s) (rw n at e)
 
     pub letter-joins : r ≡ true → Merged w i (i + 1 + next)
     letter-joins h = go (decLt (i + 1) (length w))

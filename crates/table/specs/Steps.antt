@@ -26,3 +26,9 @@ pub record NextKnown (w out : List ℕ) (i next : ℕ) : Type 0 where
 pub record MergedTo (w out : List ℕ) (i j : ℕ) : Type 0 where
   pub after : TabledAfter w out i
   pub merged : Merged w i j
+
+-- a word from i to j, and n letters after it
+pub record Neighbours (w : List ℕ) (i j n : ℕ) : Type 0 where
+  pub left : i < j
+  pub right : 0 < n
+  pub inside : j + n ≤ length w

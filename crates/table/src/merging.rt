@@ -2,11 +2,12 @@
 //! longest words that follow, as long as each comes after what stands before it.
 ghost use mathlib.Core.Path.{_≡_};
 ghost use mathlib.Core.List.{[], _∷_};
-ghost use lib.ListN.{getD};
+ghost use Prim.Native.Nat.{_-_};
+ghost use lib.ListN.{getD, take, drop};
 ghost use Rattle.words.specs.Words.{isInverseBefore};
 ghost use Rattle.words.specs.Factorizations.{lyndonTable};
 ghost use Rattle.checks.specs.Answers.{writtenAs};
-ghost use Rattle.table.specs.Steps.{Fits, NextKnown, MergedTo};
+ghost use Rattle.table.specs.Steps.{Fits, NextKnown, MergedTo, Neighbours};
 
 /// Whether u comes before v in the inverse order. The test repeats that of the loop in `common_length`, so that the compiler can join them.
 pub fn comes_before(u: &[u8], v: &[u8]) -> bool
@@ -33,6 +34,19 @@ fn letter_comes_before(a: u8, v: &[u8]) -> bool
     b < a
 }
 
+/// Whether the word from i to j comes before the n letters after it, in the inverse order. Their first letters decide most often.
+fn joins(word: &[u8], i: usize, j: usize, n: usize) -> bool
+    requires { ⌜ Neighbours (now word) i j n ⌝ }
+    ensures { λ r. ⌜ r ≡ isInverseBefore (take (j - i) (drop i (now (word .entry)))) (take n (drop j (now (word .entry)))) ⌝ }
+{
+    let a = word[i];
+    let b = word[j];
+    if b != a {
+        return b < a;
+    }
+    comes_before(&word[i..j], &word[j..j + n])
+}
+
 /// Entry i of the table: the word from i to `from` is anti-Lyndon, and the words that follow join it as long as they come after it.
 fn longest_from(word: &[u8], lengths: &[u16], i: usize, from: usize) -> usize
     requires { ⌜ MergedTo (now word) (now lengths) i from ⌝ }
@@ -41,7 +55,7 @@ fn longest_from(word: &[u8], lengths: &[u16], i: usize, from: usize) -> usize
     let mut j = from;
     while j < word.len() {
         let n = lengths[j] as usize;
-        if !comes_before(&word[i..j], &word[j..j + n]) {
+        if !joins(word, i, j, n) {
             return j - i;
         }
         j += n;

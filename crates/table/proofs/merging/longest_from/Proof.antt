@@ -38,48 +38,29 @@ shared-slice-read-n c = search needs
 cast-n : tie.Need-cast-n Inv-loop μ-loop
 cast-n c = omega (arith, c .shared-slice-known3 .given (c .before .before .loop .j))
 
-sub-comes-before : tie.Need-sub-comes-before Inv-loop μ-loop
-sub-comes-before c = search needs
-
-part-comes-before-start : tie.Need-part-comes-before-start Inv-loop μ-loop
-part-comes-before-start c = search needs
-
-part-comes-before-end : tie.Need-part-comes-before-end Inv-loop μ-loop
-part-comes-before-end c = search needs
-
-add-comes-before : tie.Need-add-comes-before Inv-loop μ-loop
-add-comes-before c = omega (arith, fits (c .before .before) .1)
-
-sub-comes-before-2 : tie.Need-sub-comes-before-2 Inv-loop μ-loop
-sub-comes-before-2 c = search needs
-
-part-comes-before-start-2 : tie.Need-part-comes-before-start-2 Inv-loop μ-loop
-part-comes-before-start-2 c = search needs
-
-part-comes-before-end-2 : tie.Need-part-comes-before-end-2 Inv-loop μ-loop
-part-comes-before-end-2 c = omega (arith, fits (c .before .before) .1)
-
-comes-before-requires : tie.Need-comes-before-requires Inv-loop μ-loop
-comes-before-requires c κs = search needs
+joins-requires : tie.Need-joins-requires Inv-loop μ-loop
+joins-requires c κs =
+    let f = fits (c .before) in
+    record { left = c .before .before .loop .inv .after; right = f .0; inside = f .1 }
 
 sub-result : tie.Need-sub-result Inv-loop μ-loop
 sub-result c = search needs
 
 returns : tie.Need-returns Inv-loop μ-loop
 returns c =
-    let turn = c .before .before .before .before .before in
-    turn-stops (turn .before .loop .inv) (turn .loop-test .taken) (entry turn) (c .before .comes-before .ensures) (not-true _ (c .if1 .taken))
+    let turn = c .before .before .before in
+    turn-stops (turn .before .loop .inv) (turn .loop-test .taken) (entry turn) (c .before .joins .ensures) (not-true _ (c .if1 .taken))
 
 add-j : tie.Need-add-j Inv-loop μ-loop
-add-j c = omega (arith, fits (c .before .before .before .before .before) .1)
+add-j c = omega (arith, fits (c .before .before .before) .1)
 
 loop-less : tie.Need-loop-less Inv-loop μ-loop
-loop-less c = omega (arith, fits (c .before .before .before .before .before) .0)
+loop-less c = omega (arith, fits (c .before .before .before) .0)
 
 loop-again : tie.Need-loop-again Inv-loop μ-loop
 loop-again c =
-    let turn = c .before .before .before .before .before in
-    turn-joins (turn .before .loop .inv) (turn .loop-test .taken) (entry turn) (c .before .comes-before .ensures) (not-false _ (c .if1 .left))
+    let turn = c .before .before .before in
+    turn-joins (turn .before .loop .inv) (turn .loop-test .taken) (entry turn) (c .before .joins .ensures) (not-false _ (c .if1 .left))
 
 sub-result-2 : tie.Need-sub-result-2 Inv-loop μ-loop
 sub-result-2 c = search needs
@@ -97,14 +78,7 @@ longest-from-spec =
     mul-n
     shared-slice-read-n
     cast-n
-    sub-comes-before
-    part-comes-before-start
-    part-comes-before-end
-    add-comes-before
-    sub-comes-before-2
-    part-comes-before-start-2
-    part-comes-before-end-2
-    comes-before-requires
+    joins-requires
     sub-result
     returns
     add-j
