@@ -49,5 +49,5 @@ pub fn common_length(x: &[u8], y: &[u8]) -> usize
         }
         l += 1;
     }
-    l
+    most
 }

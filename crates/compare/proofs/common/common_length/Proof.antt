@@ -1,5 +1,6 @@
 -- The letters read so far are equal; a return stands where one word ends or the two differ.
 use borrow.Author.Needs.{needs}
+use mathlib.Core.Path.{_≡_}
 use Prim.Native.Nat.{_-_}
 use native.Mathlib.Omega.{arith}
 use Rattle.compare.proofs.CommonLength.{matched-more, agree-unique}
@@ -44,7 +45,11 @@ loop-again c =
     matched-more _ _ _ (b .before .loop .inv) (omega (arith, b .loop-test .taken)) (omega (arith, b .loop-test .taken)) (omega arith)
 
 returns-2 : tie.Need-returns-2 Inv-loop μ-loop
-returns-2 c = agree-unique _ _ _ (record { matched = c .before .loop .inv; differ = λ h k. absurd (omega (arith, c .before .before .before .shorter .ensures)) })
+returns-2 c =
+    let inv = c .before .loop .inv in
+    let m = c .before .before .before .shorter .ensures in
+    let whole : c .before .loop .l ≡ c .before .before .before .shorter .result = omega (arith, m, inv .left, inv .right, c .loop-test .left) in
+    rw whole at (agree-unique _ _ _ (record { matched = inv; differ = λ h k. absurd (omega (arith, m)) }))
 
 pub common-length-spec : {M : Type 1} → statement M
 common-length-spec =
