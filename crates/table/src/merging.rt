@@ -10,7 +10,7 @@ ghost use Rattle.checks.specs.Answers.{writtenAs};
 ghost use Rattle.table.specs.Steps.{Fits, NextKnown, MergedTo, Neighbours};
 
 /// Whether u comes before v in the inverse order. The test repeats that of the loop in `common_length`, so that the compiler can join them.
-pub fn comes_before(u: &[u8], v: &[u8]) -> bool
+fn comes_before(u: &[u8], v: &[u8]) -> bool
     ensures { λ r. ⌜ r ≡ isInverseBefore (now (u .entry)) (now (v .entry)) ⌝ }
 {
     let l = compare::common_length(u, v);
@@ -64,7 +64,7 @@ fn longest_from(word: &[u8], lengths: &[u16], i: usize, from: usize) -> usize
 }
 
 /// Entry i of the table, from the entries after it; `next` is the first of them, 0 if there is none.
-pub fn longest_at(word: &[u8], lengths: &[u16], i: usize, next: usize) -> usize
+fn longest_at(word: &[u8], lengths: &[u16], i: usize, next: usize) -> usize
     requires { ⌜ NextKnown (now word) (now lengths) i next ⌝ }
     ensures { λ r. ⌜ r ≡ getD (lyndonTable (now (word .entry))) i 0 ⌝ }
 {
