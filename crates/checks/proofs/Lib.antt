@@ -1,3 +1,3 @@
-pub mod RefusalLaws
-pub mod EndsLaws
 pub mod LineLaws
+pub mod RecordLaws
+pub mod EndsLaws

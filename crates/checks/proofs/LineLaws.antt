@@ -1,42 +1,161 @@
--- The lines of the table in their order: the number of the first line that refuses is the call's, and none refuses where all pass.
+-- The lines of the table, whatever they are: what is known in the two branches of `let Checked::Passed = k else` (passed, refused), lines that are
+-- tried in two parts (both, refused-first, passed-first), what it tells that all pass (unmet, all-pass), which numbers can come (first-listed), and
+-- calls that fill a result buffer (filled-refused, filled-done).
 use mathlib.Core.Path.{_≡_, refl, ap, sym, _∙_}
-use mathlib.Core.List.{List, [], _∷_}
-use Prim.Native.Nat.{ℕ, zero, suc, _<_}
+use mathlib.Core.Bool.{Bool, true, false, _||_, _&&_, true≢false}
+use mathlib.Core.Logic.{_⊎_, inl, inr}
+use mathlib.Core.List.{List, [], _∷_, _++_, List·Memᴰ, List·Memᴰ·head, List·Memᴰ·tail}
+use Prim.Native.Nat.{ℕ}
 use native.Mathlib.Omega.{arith}
+use lib.Dec.{eqb, ltb}
 use types.Run.{OneOf}
 use denote.Enum.Declared.{tagOf}
+use borrow.Author.Tests.{eqb-true, ltb-true}
+use Rattle.buffers.specs.Buffers.{written}
 use Rattle.checks.proofs.Checked.{the-type}
 use Rattle.checks.specs.declared.Checked.{Checked}
-use Rattle.checks.specs.Refusals.{firstRefusal}
-use Rattle.checks.specs.Answers.{checkedAs, numberOf}
-use Rattle.checks.proofs.RefusalLaws.{number-checked, passed, refused}
+use Rattle.checks.specs.declared.Checked.the-variants.{Passed, Refused}
+use Rattle.checks.specs.declared.Counted.{Counted}
+use Rattle.checks.specs.Lines.{Line, _when_, tried, decided, _unless_then_}
+use Rattle.checks.specs.Answers.{numberOf, firstOf, Filled}
 
-pub first-here : (a : ℕ) (lines : List ℕ) → 0 < a → firstRefusal (a ∷ lines) ≡ a
-first-here zero lines l = absurd (omega arith)
-first-here (suc a) lines l = refl
+-- ---- a check k: the two branches of `let Checked::Passed = k else`
 
-pub first-next : (a : ℕ) (lines : List ℕ) → a ≡ 0 → firstRefusal (a ∷ lines) ≡ firstRefusal lines
-first-next zero lines e = refl
-first-next (suc a) lines e = absurd (omega arith)
+abbrev pub IsPassed : Checked → Type 0
+IsPassed k = OneOf (0 ∷ []) (tagOf the-type k)
 
-pub first-last : (a : ℕ) → firstRefusal (a ∷ []) ≡ a
-first-last zero = refl
-first-last (suc a) = refl
+abbrev pub IsRefused : Checked → Type 0
+IsRefused k = OneOf (1 ∷ []) (tagOf the-type k)
 
--- no line refuses: the first passes, and no later one refuses
-pub first-none : (a : ℕ) (lines : List ℕ) → firstRefusal (a ∷ lines) ≡ 0 → (a ≡ 0) × (firstRefusal lines ≡ 0)
-first-none zero lines e = (refl, e)
-first-none (suc a) lines e = absurd (omega arith)
+is-passed : (k : Checked) → IsPassed k → k ≡ Passed
+is-passed Passed h = refl
+is-passed (Refused number) h = let z : _≡_ {A = ℕ} 1 0 = h in absurd (omega arith)
 
--- ---- a check k of a line: the two branches of `let Checked::Passed = k else`, and the last line
+-- a refusal is what it stands for, whatever the result would have been
+is-refused : {A : Type 0} (k : Checked) (result : A) (refusal : ℕ → A) → IsRefused k → refusal (numberOf k) ≡ decided k result refusal
+is-refused Passed result refusal h = let z : _≡_ {A = ℕ} 0 1 = h in absurd (omega arith)
+is-refused (Refused number) result refusal h = refl
 
-pub line-refused : (k : Checked) (a : ℕ) (lines : List ℕ) → k ≡ checkedAs a → OneOf (1 ∷ []) (tagOf the-type k)
-    → numberOf k ≡ firstRefusal (a ∷ lines)
-line-refused k a lines e h = ap numberOf e ∙ number-checked a ∙ sym (first-here a lines (refused k a e h))
+pub passed : (lines : List Line) {k : Checked} → k ≡ tried lines → IsPassed k → tried lines ≡ Passed
+passed lines {k} e h = sym e ∙ is-passed k h
 
-pub line-passed : (k : Checked) (a : ℕ) (lines : List ℕ) → k ≡ checkedAs a → OneOf (0 ∷ []) (tagOf the-type k)
-    → firstRefusal lines ≡ firstRefusal (a ∷ lines)
-line-passed k a lines e h = sym (first-next a lines (passed k a e h))
+-- m is the number that is passed up
+pub refused : {A : Type 0} (lines : List Line) (result : A) (refusal : ℕ → A) {k : Checked} {m : ℕ}
+    → k ≡ tried lines → IsRefused k → m ≡ numberOf k → refusal m ≡ result unless lines then refusal
+refused lines result refusal {k} e h z = ap refusal z ∙ is-refused k result refusal h ∙ ap (λ (t : Checked). decided t result refusal) e
 
-pub line-last : (k : Checked) (a : ℕ) → k ≡ checkedAs a → numberOf k ≡ firstRefusal (a ∷ [])
-line-last k a e = ap numberOf e ∙ number-checked a ∙ sym (first-last a)
+-- ---- lines that are tried in two parts
+
+parts : (lines more : List Line) → firstOf (tried lines) (tried more) ≡ tried (lines ++ more)
+unfolding tried
+parts [] more = refl
+parts (number when true ∷ lines) more = refl
+parts (number when false ∷ lines) more = parts lines more
+
+pub both : (lines more : List Line) {k l r : Checked} → r ≡ firstOf k l → k ≡ tried lines → l ≡ tried more → r ≡ tried (lines ++ more)
+both lines more e p q = e ∙ rw (p, q) (parts lines more)
+
+pub refused-first : (lines more : List Line) {k : Checked} → k ≡ tried lines → IsRefused k → k ≡ tried (lines ++ more)
+refused-first lines more {k} e h = both lines more (same k h) e refl
+  where
+    same : (k : Checked) → IsRefused k → k ≡ firstOf k (tried more)
+    same Passed h = let z : _≡_ {A = ℕ} 0 1 = h in absurd (omega arith)
+    same (Refused number) h = refl
+
+pub passed-first : (lines more : List Line) {k : Checked} → tried lines ≡ Passed → k ≡ tried more → k ≡ tried (lines ++ more)
+passed-first lines more p e = e ∙ (rw p at (parts lines more))
+
+-- more lines that pass where the others do change nothing
+pub first-alone : (lines more : List Line) → (tried lines ≡ Passed → tried more ≡ Passed) → tried (lines ++ more) ≡ tried lines
+first-alone lines more h = sym (parts lines more) ∙ go (tried lines) h
+  where
+    go : (k : Checked) → (k ≡ Passed → tried more ≡ Passed) → firstOf k (tried more) ≡ k
+    go Passed h = h refl
+    go (Refused number) h = refl
+
+-- ---- all lines pass just where no condition is met
+
+abbrev pub Unmet : List Line → Type 0
+Unmet [] = Unit {0}
+Unmet (number when met ∷ lines) = (met ≡ false) × Unmet lines
+
+pub unmet : (lines : List Line) → tried lines ≡ Passed → Unmet lines
+unfolding tried
+unmet [] e = search
+unmet (number when true ∷ lines) e = let z : _≡_ {A = ℕ} 1 0 = ap (tagOf the-type) e in absurd (omega arith)
+unmet (number when false ∷ lines) e = (refl, unmet lines e)
+
+pub all-pass : (lines : List Line) → Unmet lines → tried lines ≡ Passed
+unfolding tried
+all-pass [] u = refl
+all-pass (number when met ∷ lines) u = rw (u .0) (all-pass lines (u .1))
+
+-- a condition of two parts
+pub either-unmet : (a b : Bool) → (a || b) ≡ false → (a ≡ false) × (b ≡ false)
+either-unmet true b e = absurd (true≢false e)
+either-unmet false b e = (refl, e)
+
+-- ---- which numbers can come
+
+-- what is read off an answer
+pub reading : {A B : Type 0} (f : A → B) (result : A) (refusal : ℕ → A) (k : Checked)
+    → f (decided k result refusal) ≡ decided k (f result) (λ number. f (refusal number))
+reading f result refusal Passed = refl
+reading f result refusal (Refused number) = refl
+
+both-true : (a b : Bool) → (a && b) ≡ true → (a ≡ true) × (b ≡ true)
+both-true true b e = (refl, e)
+both-true false b e = absurd (true≢false (sym e))
+
+-- a test holds for every line's number
+abbrev pub everyNumber : (ℕ → Bool) → List Line → Bool
+everyNumber test [] = true
+everyNumber test (number when met ∷ lines) = test number && everyNumber test lines
+
+-- so it holds for the number of the line that refuses
+number-tested : (test : ℕ → Bool) (lines : List Line) → everyNumber test lines ≡ true → (tried lines ≡ Passed) ⊎ (test (numberOf (tried lines)) ≡ true)
+unfolding tried
+number-tested test [] e = inl refl
+number-tested test (number when true ∷ lines) e = inr (both-true (test number) (everyNumber test lines) e .0)
+number-tested test (number when false ∷ lines) e = number-tested test lines (both-true (test number) (everyNumber test lines) e .1)
+
+abbrev pub among : List ℕ → ℕ → Bool
+among [] n = false
+among (m ∷ ms) n = eqb n m || among ms n
+
+among-is : (ms : List ℕ) (n : ℕ) → among ms n ≡ true → List·Memᴰ n ms
+among-is [] n e = absurd (true≢false (sym e))
+among-is (m ∷ ms) n e = go (eqb n m) refl e (λ h. among-is ms n h)
+  where
+    go : (t : Bool) → eqb n m ≡ t → (t || among ms n) ≡ true → (among ms n ≡ true → List·Memᴰ n ms) → List·Memᴰ n (m ∷ ms)
+    go true z e later = List·Memᴰ·head (eqb-true n m z)
+    go false z e later = List·Memᴰ·tail (later e)
+
+-- the numbers of a call's lines are its refusals
+pub first-listed : (lines : List Line) (ms : List ℕ) → everyNumber (among ms) lines ≡ true → (tried lines ≡ Passed) ⊎ List·Memᴰ (numberOf (tried lines)) ms
+first-listed lines ms e = go (number-tested (among ms) lines e)
+  where
+    go : (tried lines ≡ Passed) ⊎ (among ms (numberOf (tried lines)) ≡ true) → (tried lines ≡ Passed) ⊎ List·Memᴰ (numberOf (tried lines)) ms
+    go (inl p) = inl p
+    go (inr h) = inr (among-is ms _ h)
+
+-- no line has the number 0, so 0 says that all pass
+pub zero-passes : (lines : List Line) → everyNumber (ltb 0) lines ≡ true → numberOf (tried lines) ≡ 0 → tried lines ≡ Passed
+zero-passes lines e z = go (number-tested (ltb 0) lines e)
+  where
+    go : (tried lines ≡ Passed) ⊎ (ltb 0 (numberOf (tried lines)) ≡ true) → tried lines ≡ Passed
+    go (inl p) = p
+    go (inr h) = absurd (omega (arith, z, ltb-true 0 (numberOf (tried lines)) h))
+
+-- ---- calls that fill a result buffer
+
+pub filled-refused : {k : Checked} {m : ℕ} {lines : List Line} (n : ℕ) (vs buffer : List ℕ) → k ≡ tried lines → IsRefused k → m ≡ numberOf k
+    → Filled lines n vs buffer (Counted.Refused m) buffer
+filled-refused {lines = lines} n vs buffer e h z = record {
+  answer = refused lines (Counted.Count n) (λ (i : ℕ). Counted.Refused i) e h z;
+  result = refused lines (written vs buffer) (λ (i : ℕ). buffer) e h z;
+}
+
+pub filled-done : {lines : List Line} {n m : ℕ} {vs buffer buffer′ : List ℕ} → tried lines ≡ Passed → m ≡ n → buffer′ ≡ written vs buffer
+    → Filled lines n vs buffer (Counted.Count m) buffer′
+filled-done p z e = record { answer = rw p (ap (λ (t : ℕ). Counted.Count t) z); result = rw p e }

@@ -1,8 +1,9 @@
-//! Paper 01's table of refusals, a function for each place of a check; the comparison looks at its starts, line 6, itself. A call tries
-//! its lines in the table's order and passes a refusal up with its number unchanged.
+//! Paper 01's table of refusals: a function for each line. A call puts its admission together from these by `then`, in the table's order, and
+//! passes a refusal up with its number unchanged.
 ghost use mathlib.Core.Path.{_≡_};
-ghost use Rattle.checks.specs.Refusals.{recordRefusal, workRefusal, resultRefusal, rangeRefusal, endsRefusal, numberRefusal};
-ghost use Rattle.checks.specs.Answers.{checkedAs, numberOf};
+ghost use mathlib.Core.List.{[], _∷_};
+ghost use Rattle.checks.specs.Lines.{_when_, tried, recordLines, workLine, resultLine, rangeLine, startLine, faultyEnds, endsLine, numberLine};
+ghost use Rattle.checks.specs.Answers.{numberOf, firstOf};
 
 /// The most letters that a record may have.
 pub const MOST: usize = 4096;
@@ -14,13 +15,33 @@ pub enum Checked {
 }
 
 impl Checked {
+    /// A line of the table: its number where its condition is met.
+    pub fn when(number: u8, met: bool) -> Checked
+        ensures { λ r. ⌜ r ≡ tried (number when met ∷ []) ⌝ }
+    {
+        if met {
+            return Checked::Refused(number);
+        }
+        Checked::Passed
+    }
+
+    /// This refusal, or what the next check says where this one passed.
+    pub fn then(self, next: Checked) -> Checked
+        ensures { λ r. ⌜ r ≡ firstOf self next ⌝ }
+    {
+        match self {
+            Checked::Passed => next,
+            Checked::Refused(number) => Checked::Refused(number),
+        }
+    }
+
     /// The number to pass up; 0 where the check passed.
     pub fn number(self) -> u8
         ensures { λ r. ⌜ r ≡ numberOf self ⌝ }
     {
         match self {
             Checked::Passed => 0,
-            Checked::Refused(e) => e,
+            Checked::Refused(number) => number,
         }
     }
 }
@@ -33,88 +54,70 @@ pub enum Counted {
 
 /// Lines 1 and 2: the record's length.
 pub fn check_record(word: &[u8]) -> Checked
-    ensures { λ r. ⌜ r ≡ checkedAs (recordRefusal (now (word .entry))) ⌝ }
+    ensures { λ r. ⌜ r ≡ tried (recordLines (now (word .entry))) ⌝ }
 {
     let n = word.len();
-    if n == 0 {
-        return Checked::Refused(1);
-    }
-    if MOST < n {
-        return Checked::Refused(2);
-    }
-    Checked::Passed
+    Checked::when(1, n == 0).then(Checked::when(2, MOST < n))
 }
 
 /// Line 3: entries lent for work, entries needed.
 pub fn check_work(entries: usize, needed: usize) -> Checked
-    ensures { λ r. ⌜ r ≡ checkedAs (workRefusal entries needed) ⌝ }
+    ensures { λ r. ⌜ r ≡ tried (workLine entries needed ∷ []) ⌝ }
 {
-    if entries < needed {
-        return Checked::Refused(3);
-    }
-    Checked::Passed
+    Checked::when(3, entries < needed)
 }
 
 /// Line 4: entries lent for the result, entries that the answer has.
 pub fn check_result(entries: usize, needed: usize) -> Checked
-    ensures { λ r. ⌜ r ≡ checkedAs (resultRefusal entries needed) ⌝ }
+    ensures { λ r. ⌜ r ≡ tried (resultLine entries needed ∷ []) ⌝ }
 {
-    if entries < needed {
-        return Checked::Refused(4);
-    }
-    Checked::Passed
+    Checked::when(4, entries < needed)
 }
 
 /// Line 5: the range from `first` to `end` of a record of `length` letters.
 pub fn check_range(length: usize, first: usize, end: usize) -> Checked
-    ensures { λ r. ⌜ r ≡ checkedAs (rangeRefusal length first end) ⌝ }
+    ensures { λ r. ⌜ r ≡ tried (rangeLine length first end ∷ []) ⌝ }
 {
-    if end <= first {
-        return Checked::Refused(5);
-    }
-    if length < end {
-        return Checked::Refused(5);
-    }
-    Checked::Passed
+    Checked::when(5, (end <= first) | (length < end))
 }
 
-/// Line 7: a list of ends for a record of `length` letters. Two ends in a step: a step costs the processor a jump.
-pub fn check_ends(ends: &[u16], length: usize) -> Checked
-    ensures { λ r. ⌜ r ≡ checkedAs (endsRefusal (now (ends .entry)) length) ⌝ }
+/// Line 6: a start of the range from `first` to `end`.
+pub fn check_start(first: usize, end: usize, start: usize) -> Checked
+    ensures { λ r. ⌜ r ≡ tried (startLine first end start ∷ []) ⌝ }
+{
+    Checked::when(6, (start < first) | (end <= start))
+}
+
+// Whether a list of ends is empty, does not rise strictly from above 0, or does not end at `length`.
+fn faulty_ends(ends: &[u16], length: usize) -> bool
+    ensures { λ r. ⌜ r ≡ faultyEnds (now (ends .entry)) length ⌝ }
 {
     if ends.len() == 0 {
-        return Checked::Refused(7);
+        return true;
     }
     let mut last: u16 = 0;
     let mut i: usize = 0;
-    while 2 <= ends.len() - i {
-        let end = ends[i];
-        let next = ends[i + 1];
-        if end <= last || next <= end {
-            return Checked::Refused(7);
-        }
-        last = next;
-        i += 2;
-    }
-    if i < ends.len() {
+    while i < ends.len() {
         let end = ends[i];
         if end <= last {
-            return Checked::Refused(7);
+            return true;
         }
         last = end;
+        i += 1;
     }
-    if last as usize != length {
-        return Checked::Refused(7);
-    }
-    Checked::Passed
+    last as usize != length
 }
 
-/// Line 8: a piece number against the number of ends.
-pub fn check_number(number: usize, count: usize) -> Checked
-    ensures { λ r. ⌜ r ≡ checkedAs (numberRefusal number count) ⌝ }
+/// Line 7: a list of ends for a record of `length` letters.
+pub fn check_ends(ends: &[u16], length: usize) -> Checked
+    ensures { λ r. ⌜ r ≡ tried (endsLine (now (ends .entry)) length ∷ []) ⌝ }
 {
-    if count <= number {
-        return Checked::Refused(8);
-    }
-    Checked::Passed
+    Checked::when(7, faulty_ends(ends, length))
+}
+
+/// Line 8: a part's number against the number of ends.
+pub fn check_number(number: usize, count: usize) -> Checked
+    ensures { λ r. ⌜ r ≡ tried (numberLine number count ∷ []) ⌝ }
+{
+    Checked::when(8, count <= number)
 }

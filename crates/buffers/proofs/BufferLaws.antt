@@ -1,0 +1,55 @@
+-- What stores leave in a buffer: a copy one entry further (copy-more), an entry stored from the end on (FilledFrom), and what is kept past
+-- a place (kept-past, cleared-kept). A fill one entry further is the kit's fill-more.
+use mathlib.Core.Path.{_≡_, ap, sym, _∙_}
+use mathlib.Core.List.{List, _∷_, _++_, append-assoc}
+use Prim.Native.Nat.{ℕ, suc, _+_, _-_, _≤_, _<_}
+use native.Mathlib.Nat.{zero-add}
+use native.Mathlib.Numerals.{add-one}
+use native.Mathlib.Omega.{arith}
+use lib.ListN.{length, take, drop, getD, set, replicate, length-set}
+use lib.Seq.{paste-suc, drop-drop, length-take-le, take-suc, drop-cons, set-at, getD-drop, getD-append-add}
+use Rattle.buffers.specs.Buffers.{cleared}
+
+-- a turn of the loop that copies to the front
+pub copy-more : (source buffer : List ℕ) (i : ℕ) → i < length source → length source ≤ length buffer
+    → set (take i source ++ drop i buffer) i (getD source i 0) ≡ take (i + 1) source ++ drop (i + 1) buffer
+copy-more source buffer i l m = simp (zero-add, ← add-one) at (paste-suc buffer 0 source i 0 (omega arith) l)
+
+-- ---- what is kept past a place
+
+pub kept-past : (n m : ℕ) (xs ys : List ℕ) → n ≤ m → drop n xs ≡ drop n ys → drop m xs ≡ drop m ys
+kept-past n m xs ys l e =
+    let z : n + (m - n) ≡ m = omega arith in
+    (rw z at (sym (drop-drop (m - n) n xs))) ∙ ap (drop (m - n)) e ∙ (rw z at (drop-drop (m - n) n ys))
+
+pub cleared-kept : (n : ℕ) (xs ys : List ℕ) → drop n xs ≡ drop n ys → cleared n xs ≡ cleared n ys
+cleared-kept n xs ys e = ap (λ (t : List ℕ). replicate n 0 ++ t) e
+
+-- ---- a buffer that is filled from its end on
+
+-- from i on the entries are those of goal, before i they are as they were
+pub record FilledFrom (goal buffer₀ buffer : List ℕ) (i : ℕ) : Type 0 where
+  pub content : buffer ≡ take i buffer₀ ++ drop i goal
+  pub same : length buffer ≡ length buffer₀
+
+pub filled-store : {goal buffer₀ buffer : List ℕ} {i : ℕ} → i < length buffer₀ → i < length goal → FilledFrom goal buffer₀ buffer (suc i)
+    → FilledFrom goal buffer₀ (set buffer i (getD goal i 0)) i
+filled-store {goal} {buffer₀} {buffer} {i} l k g =
+    let e : buffer ≡ take i buffer₀ ++ (getD buffer₀ i 0 ∷ drop (suc i) goal) = g .content ∙ rw (take-suc buffer₀ i 0 l, append-assoc) in
+    record {
+      content =
+          ap (λ (x : List ℕ). set x i (getD goal i 0)) e
+          ∙ set-at (take i buffer₀) (getD buffer₀ i 0) (drop (suc i) goal) (getD goal i 0) i (length-take-le i buffer₀ (omega arith))
+          ∙ rw (drop-cons goal i 0 k);
+      same = length-set buffer i (getD goal i 0) ∙ g .same;
+    }
+
+pub filled-read : {goal buffer₀ buffer : List ℕ} {i : ℕ} (k : ℕ) → i ≤ length buffer₀ → i ≤ k → FilledFrom goal buffer₀ buffer i
+    → getD buffer k 0 ≡ getD goal k 0
+filled-read {goal} {buffer₀} {buffer} {i} k l h g =
+    let n : length (take i buffer₀) + (k - i) ≡ k = omega (arith, length-take-le i buffer₀ l) in
+    let m : i + (k - i) ≡ k = omega arith in
+    ap (λ (x : List ℕ). getD x k 0) (g .content)
+    ∙ (rw n at (getD-append-add (take i buffer₀) (drop i goal) (k - i) 0))
+    ∙ getD-drop i goal (k - i) 0
+    ∙ rw m

@@ -1,0 +1,31 @@
+-- Parts of a list as code lends them: from a place to the end (rest-is), between two places (part-is), and the whole after a part of it
+-- was lent for writing (rest-back).
+use mathlib.Core.Path.{_≡_, ap, sym, _∙_}
+use mathlib.Core.List.{List, [], _∷_, _++_, append-nil}
+use Prim.Native.Nat.{ℕ, zero, suc, _-_}
+use native.Mathlib.Omega.{arith}
+use lib.ListN.{length, take, drop, length-drop, drop-of-length-le}
+use lib.Seq.{slice, take-all, take-nil}
+
+-- `&xs[a..b]`
+abbrev pub part : ℕ → ℕ → List ℕ → List ℕ
+part a b xs = take (b - a) (drop a xs)
+
+pub part-is : (a b : ℕ) (xs : List ℕ) → part a b xs ≡ slice a b xs
+part-is zero b xs = let z : b - 0 ≡ b = omega arith in rw z
+part-is (suc a) zero xs = let z : 0 - suc a ≡ 0 = omega arith in rw z
+part-is (suc a) (suc b) [] = take-nil (suc b - suc a)
+part-is (suc a) (suc b) (x ∷ xs) = let z : suc b - suc a ≡ b - a = omega arith in rw z (part-is a b xs)
+
+-- `&xs[a..]`
+abbrev pub rest : ℕ → List ℕ → List ℕ
+rest a xs = part a (length xs) xs
+
+pub rest-is : (a : ℕ) (xs : List ℕ) → rest a xs ≡ drop a xs
+rest-is a xs = take-all (length xs - a) (drop a xs) (rw (length-drop a xs) (omega arith))
+
+-- `&mut xs[a..]` was lent and came back as ys
+pub rest-back : (a : ℕ) (xs ys : List ℕ) → take a xs ++ (ys ++ drop (length xs - a) (drop a xs)) ≡ take a xs ++ ys
+rest-back a xs ys =
+    ap (λ (t : List ℕ). take a xs ++ t)
+    (ap (λ (t : List ℕ). ys ++ t) (drop-of-length-le (drop a xs) {i = length xs - a} (rw (length-drop a xs) (omega arith))) ∙ append-nil ys)

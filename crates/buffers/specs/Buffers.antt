@@ -1,0 +1,12 @@
+-- DEFINITIONS. What a lent buffer holds after it was cleared or written to; it keeps its length.
+use mathlib.Core.List.{List, _++_}
+use Prim.Native.Nat.{ℕ}
+use lib.ListN.{length, drop, replicate}
+
+-- the first n entries "are zero and later ones unchanged"
+abbrev pub cleared : ℕ → List ℕ → List ℕ
+cleared n buffer = replicate n 0 ++ drop n buffer
+
+-- vs stands from entry 0 on, later entries as they were
+abbrev pub written : List ℕ → List ℕ → List ℕ
+written vs buffer = vs ++ drop (length vs) buffer
