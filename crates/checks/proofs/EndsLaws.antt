@@ -8,7 +8,7 @@ use native.Mathlib.Omega.{arith}
 use lib.ListN.{length, drop, getD, drop-of-length-le}
 use lib.Seq.{drop-cons}
 use lib.Dec.{eqb}
-use Rattle.words.specs.Decisions.{Decides, holds, fails, leb-test, eqb-test, decides-map}
+use Rattle.words.specs.orders.Decisions.{Decides, holds, fails, leb-test, eqb-test, decides-map}
 use Rattle.checks.specs.Refusals.{refuse, rising, lastOf, endsRefusal}
 
 -- from a on the ends rise strictly to n

@@ -10,7 +10,7 @@ use lib.Dec.{ltb, eqb}
 use types.Run.{OneOf}
 use borrow.Author.Tests.{ne-eqb, le-ltb, lt-leb}
 use denote.Enum.Declared.{tagOf}
-use Rattle.words.specs.Decisions.{Decides, holds, fails, leb-test, eqb-test}
+use Rattle.words.specs.orders.Decisions.{Decides, holds, fails, leb-test, eqb-test}
 use Rattle.checks.proofs.Checked.{the-type}
 use Rattle.checks.specs.declared.Checked.{Checked}
 use Rattle.checks.specs.declared.Checked.the-variants.{Passed, Refused}

@@ -7,9 +7,9 @@ use Prim.Native.Nat.{ℕ, zero, suc, _+_, _≤_, _<_, zero-le}
 use native.Mathlib.Omega.{arith}
 use lib.ListN.{length, getD}
 use Rattle.words.specs.Words.{_≪_, _⊑_, _≺_, proper, prefix}
-use Rattle.words.specs.PrefixLaws.{⊑-letters, ⊑-whole}
-use Rattle.words.specs.MismatchLaws.{≪-letters, Tri, lt, eq, gt, tri}
-use Rattle.words.specs.Decisions.{Decides, holds, fails, eqb-test}
+use Rattle.words.specs.orders.PrefixLaws.{⊑-letters, ⊑-whole}
+use Rattle.words.specs.orders.MismatchLaws.{≪-letters, Tri, lt, eq, gt, tri}
+use Rattle.words.specs.orders.Decisions.{Decides, holds, fails, eqb-test}
 use Rattle.compare.specs.Compare.{commonLength}
 use Rattle.compare.specs.Steps.{Matched}
 

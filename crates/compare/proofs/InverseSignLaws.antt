@@ -10,10 +10,10 @@ use lib.ListN.{length, take, drop}
 use lib.Seq.{slice, take-nil, drop-drop, length-slice}
 use lib.IntN.{ℤ, pos, negsuc}
 use Rattle.words.specs.Words.{_≺_, sign}
-use Rattle.words.specs.InverseLaws.{≺-irrefl, ≺-trans, ≺-total}
-use Rattle.words.specs.Decisions.{Decides, holds, fails}
-use Rattle.words.specs.WordTests.{inverse-before-test, same-test}
-use Rattle.words.specs.SignLaws.{remainder, SignOf, sign-is}
+use Rattle.words.specs.orders.InverseLaws.{≺-irrefl, ≺-trans, ≺-total}
+use Rattle.words.specs.orders.Decisions.{Decides, holds, fails}
+use Rattle.words.specs.lyndon.WordTests.{inverse-before-test, same-test}
+use Rattle.words.specs.orders.SignLaws.{remainder, SignOf, sign-is}
 use Rattle.compare.specs.Compare.{inverseSign}
 
 pub data InverseSignOf (x y : List ℕ) : ℤ → Type 0 where
