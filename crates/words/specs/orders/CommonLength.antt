@@ -6,14 +6,18 @@ use mathlib.Core.Bool.{Bool, true, false}
 use Prim.Native.Nat.{ℕ, zero, suc, _+_, _≤_, _<_, zero-le}
 use native.Mathlib.Omega.{arith}
 use lib.ListN.{length, getD}
-use Rattle.words.specs.Words.{_≪_, _⊑_, _≺_, proper, prefix}
+use Rattle.words.specs.Words.{_≪_, _⊑_, _≺_, proper, prefix, commonLength}
 use Rattle.words.specs.orders.PrefixLaws.{⊑-letters, ⊑-whole}
 use Rattle.words.specs.orders.MismatchLaws.{≪-letters, Tri, lt, eq, gt, tri}
 use Rattle.words.specs.orders.Decisions.{Decides, holds, fails, eqb-test}
-use Rattle.compare.specs.Compare.{commonLength}
-use Rattle.compare.specs.Steps.{Matched}
 
--- the first l letters are equal, and no more of them
+-- both words have l letters, and these are equal
+pub record Matched (x y : List ℕ) (l : ℕ) : Type 0 where
+  pub left : l ≤ length x
+  pub right : l ≤ length y
+  pub equal : (t : ℕ) → t < l → getD x t 0 ≡ getD y t 0
+
+-- and no more of them
 pub record Agree (x y : List ℕ) (l : ℕ) : Type 0 where
   pub matched : Matched x y l
   pub differ : l < length x → l < length y → ¬ (getD x l 0 ≡ getD y l 0)
