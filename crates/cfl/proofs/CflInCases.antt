@@ -7,7 +7,7 @@ use native.Mathlib.Omega.{arith}
 use borrow.Author.Tests.{le-ltb}
 use lib.ListN.{length}
 use Rattle.words.specs.Factorizations.{cflInEnds}
-use Rattle.words.specs.EndsRise.{rises-few, cfl-in-ends-rise}
+use Rattle.words.specs.places.EndsRise.{rises-few, cfl-in-ends-rise}
 use Rattle.checks.specs.Refusals.{recordRefusal, resultRefusal}
 use Rattle.checks.specs.Answers.{checkedAs}
 use Rattle.checks.specs.declared.Checked.{Checked}

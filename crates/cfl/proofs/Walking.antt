@@ -9,8 +9,8 @@ use native.Mathlib.Omega.{arith}
 use lib.ListN.{length, take, drop, set, length-set, length-drop, drop-of-length-le, take-append-drop}
 use lib.Seq.{getD-drop, take-all, take-suc-set, drop-set-lt, drop-drop, length-take-le}
 use Rattle.words.specs.Factorizations.{longestAntiLyndon, cflIn, cflInEnds, endsFrom}
-use Rattle.words.specs.CflInUnfold.{cfl-in-empty, cfl-in-step}
-use Rattle.words.specs.Scanned.{Stops, scanned-one, scanned-longest, scanned-after}
+use Rattle.words.specs.cfl_in.CflInUnfold.{cfl-in-empty, cfl-in-step}
+use Rattle.words.specs.scan.Scanned.{Stops, scanned-one, scanned-longest, scanned-after}
 use Rattle.scan.specs.declared.Scan.{Scan}
 use Rattle.scan.specs.State.{startState, Resumes, Rests}
 use Rattle.cfl.specs.declared.Run.{Run}

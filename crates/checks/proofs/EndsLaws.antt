@@ -9,8 +9,8 @@ use native.Mathlib.Omega.{arith}
 use lib.ListN.{length, drop, getD, drop-of-length-le}
 use lib.Seq.{drop-cons}
 use lib.Dec.{eqb}
-use Rattle.words.specs.Decisions.{Decides, holds, fails, leb-test, eqb-test, decides-map, decides-true}
-use Rattle.words.specs.EndsRise.{RisesTo, there, later}
+use Rattle.words.specs.orders.Decisions.{Decides, holds, fails, leb-test, eqb-test, decides-map, decides-true}
+use Rattle.words.specs.places.EndsRise.{RisesTo, there, later}
 use Rattle.checks.specs.Lines.{rising, lastOf, faultyEnds}
 
 rises-head : {n a e : ℕ} {es : List ℕ} → RisesTo n a (e ∷ es) → a < e

@@ -1,4 +1,2 @@
-pub mod CommonLength
 pub mod FourLaws
-pub mod InverseSignLaws
 pub mod ComparisonLaws

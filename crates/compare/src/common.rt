@@ -1,9 +1,10 @@
 //! How far two words agree.
 ghost use mathlib.Core.Path.{_≡_};
 ghost use Prim.Native.Nat.{_+_, min};
-ghost use Rattle.words.specs.Decisions.{Decides};
-ghost use Rattle.compare.specs.Compare.{commonLength};
-ghost use Rattle.compare.specs.Steps.{BothHave, Matched, FourEqual};
+ghost use Rattle.words.specs.orders.Decisions.{Decides};
+ghost use Rattle.words.specs.Words.{commonLength};
+ghost use Rattle.words.specs.orders.CommonLength.{Matched};
+ghost use Rattle.compare.specs.Steps.{BothHave, FourEqual};
 
 /// The smaller of two lengths.
 pub fn shorter(m: usize, n: usize) -> usize

@@ -1,12 +1,11 @@
 //! The sign of two words in the inverse order.
 use super::common::common_length;
 use super::common::shorter;
-ghost use mathlib.Core.Path.{_≡_};
-ghost use Rattle.compare.specs.Compare.{inverseSign};
+ghost use Rattle.words.specs.orders.WordSigns.{SignOfWords};
 
 /// −1 if x comes before y in the inverse order, 0 if they are the same, +1 otherwise.
 pub fn inverse_sign(x: &[u8], y: &[u8]) -> i8
-    ensures { λ r. ⌜ r ≡ inverseSign (now (x .entry)) (now (y .entry)) ⌝ }
+    ensures { λ r. ⌜ SignOfWords (now (x .entry)) (now (y .entry)) r ⌝ }
 {
     let l = common_length(x, y);
     if l < shorter(x.len(), y.len()) {

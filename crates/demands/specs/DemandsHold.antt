@@ -10,14 +10,14 @@ use lib.Seq.{take-at}
 use lib.IntN.{ℤ, pos, negsuc}
 use Rattle.words.specs.Words.{isInverseLyndon, sign}
 use Rattle.words.specs.Factorizations.{failingLength, prefixLength, borderLength, icfl, icflEnds, cflInEnds}
-use Rattle.words.specs.AntiLyndonLaws.{longest-is, longest-positive}
-use Rattle.words.specs.IcflUnfold.{icfl-whole, icfl-step}
-use Rattle.words.specs.CflInIs.{cfl-in-is}
-use Rattle.words.specs.CflInUnique.{cfl-in-unique}
-use Rattle.words.specs.LyndonTableCflIn.{lyndon-table-length, lyndon-table-at}
-use Rattle.words.specs.Ends.{ends-boundary}
-use Rattle.words.specs.SignLaws.{SignOf, before, equal, after, sign-is}
-use Rattle.words.specs.Demand3 as theory
+use Rattle.words.specs.lyndon.AntiLyndonLaws.{longest-is, longest-positive}
+use Rattle.words.specs.uniqueness.IcflUnfold.{icfl-whole, icfl-step}
+use Rattle.words.specs.cfl_in.CflInIs.{cfl-in-is}
+use Rattle.words.specs.cfl_in.CflInUnique.{cfl-in-unique}
+use Rattle.words.specs.table.LyndonTableCflIn.{lyndon-table-length, lyndon-table-at}
+use Rattle.words.specs.places.Ends.{ends-boundary}
+use Rattle.words.specs.orders.SignLaws.{SignOf, before, equal, after, sign-is}
+use Rattle.words.specs.places.Demand3 as theory
 use Rattle.checks.specs.Refusals.{firstRefusal}
 use Rattle.checks.specs.Answers.{countedAs, Filled}
 use Rattle.checks.specs.declared.Counted.{Counted}

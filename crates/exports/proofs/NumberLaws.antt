@@ -13,12 +13,12 @@ use types.Run.{OneOf}
 use denote.Enum.Declared.{tagOf}
 use Rattle.words.specs.Words.{isInverseLyndon, sign}
 use Rattle.words.specs.Factorizations.{failingLength, prefixLength, borderLength}
-use Rattle.words.specs.SignLaws.{SignOf, before, equal, after, sign-is}
-use Rattle.words.specs.EndsRise.{rises-few, icfl-ends-rise, cfl-in-ends-rise}
-use Rattle.words.specs.Decisions.{decides-false}
-use Rattle.words.specs.WordTests.{inverse-lyndon-test}
-use Rattle.words.specs.Border.{Step, step-is}
-use Rattle.words.specs.Failing.{failing-is}
+use Rattle.words.specs.orders.SignLaws.{SignOf, before, equal, after, sign-is}
+use Rattle.words.specs.places.EndsRise.{rises-few, icfl-ends-rise, cfl-in-ends-rise}
+use Rattle.words.specs.orders.Decisions.{decides-false}
+use Rattle.words.specs.lyndon.WordTests.{inverse-lyndon-test}
+use Rattle.words.specs.icfl.BorderLength.{Step, step-is}
+use Rattle.words.specs.icfl.Failing.{failing-is}
 use Rattle.checks.specs.Refusals.{firstRefusal, recordRefusal, workRefusal}
 use Rattle.checks.specs.Answers.{countedAs, Filled}
 use Rattle.checks.specs.declared.Counted.{Counted}

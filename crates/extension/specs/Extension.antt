@@ -6,8 +6,8 @@ use Prim.Native.Nat.{ℕ, zero, suc, _-_, _≤_, _<_}
 use lib.ListN.{length, drop, getD, replicate}
 use Rattle.words.specs.Words.{isInverseLyndon}
 use Rattle.words.specs.Factorizations.{failingLength, prefixLength, borderLength}
-use Rattle.words.specs.Scanned.{Scanned, Stops}
-use Rattle.words.specs.Borders.{Table}
+use Rattle.words.specs.scan.Scanned.{Scanned, Stops}
+use Rattle.words.specs.scan.ScannedBorders.{Table}
 use Rattle.checks.specs.Refusals.{firstRefusal, recordRefusal, workRefusal}
 use Rattle.scan.specs.declared.Scan.{Scan}
 use Rattle.extension.specs.declared.Extension.{Extension}

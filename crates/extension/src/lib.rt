@@ -4,7 +4,7 @@ use scan::Scan;
 ghost use mathlib.Core.Path.{_≡_};
 ghost use Prim.Native.Nat.{_≤_};
 ghost use lib.ListN.{length};
-ghost use Rattle.words.specs.Borders.{ShortestBorder};
+ghost use Rattle.words.specs.scan.ScannedBorders.{ShortestBorder};
 ghost use Rattle.extension.specs.Extension.{cleared, ExtensionFound, Fits, Scanning, Ready, Verdict};
 
 /// What the test answers: inverse Lyndon (paper 01: falling); failing, with L, |p| and |r|; or the number of the refusal.

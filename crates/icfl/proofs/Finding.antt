@@ -11,11 +11,11 @@ use types.Run.{OneOf}
 use denote.Enum.Declared.{tagOf}
 use Rattle.words.specs.Words.{InverseLyndon, isInverseLyndon}
 use Rattle.words.specs.Factorizations.{failingLength, prefixLength, borderLength}
-use Rattle.words.specs.Decisions.{decides-true, decides-false}
-use Rattle.words.specs.WordTests.{inverse-lyndon-test}
-use Rattle.words.specs.Border.{step-is}
-use Rattle.words.specs.IcflFactors.{prefix-positive}
-use Rattle.words.specs.Breaks.{Breaks, whole, break}
+use Rattle.words.specs.orders.Decisions.{decides-true, decides-false}
+use Rattle.words.specs.lyndon.WordTests.{inverse-lyndon-test}
+use Rattle.words.specs.icfl.BorderLength.{step-is}
+use Rattle.words.specs.icfl.IcflFactors.{prefix-positive}
+use Rattle.words.specs.scan.Breaks.{Breaks, whole, break}
 use Rattle.extension.specs.declared.Extension.{Extension}
 use Rattle.extension.specs.Extension.{verdictAs, extensionOf, Fits, Verdict}
 use Rattle.extension.proofs.Extension.{the-type}

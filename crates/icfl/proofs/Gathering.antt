@@ -7,7 +7,7 @@ use native.Mathlib.Omega.{arith}
 use lib.ListN.{length, take, drop, getD, set, length-append, length-drop, length-set, drop-of-length-le}
 use lib.Seq.{take-all, take-set-le, drop-set-add, drop-set-lt, drop-drop, take-at, drop-append-add, getD-set-same, length-take-le}
 use Rattle.words.specs.Factorizations.{icflEnds}
-use Rattle.words.specs.Breaks.{foldEnds, breaks-ends}
+use Rattle.words.specs.scan.Breaks.{foldEnds, breaks-ends}
 use Rattle.icfl.specs.Icfl.{Roomy, BreaksFound, Stacked, Joined, EndsFound}
 
 -- a part from entry a on, as the code lends it, and the whole after the loan

@@ -7,8 +7,8 @@ use native.Mathlib.Omega.{arith}
 use lib.ListN.{length, take, drop, getD, set, length-set, drop-of-length-le}
 use lib.Seq.{drop-cons, take-take, take-set-le, set-split, drop-at, length-take-le, getD-take}
 use lib.Dec.{leb}
-use Rattle.words.specs.Decisions.{Decides, holds, fails, leb-test}
-use Rattle.words.specs.Breaks.{joinEnds, foldEnds}
+use Rattle.words.specs.orders.Decisions.{Decides, holds, fails, leb-test}
+use Rattle.words.specs.scan.Breaks.{joinEnds, foldEnds}
 use Rattle.icfl.specs.Icfl.{Stacked, Joined}
 
 -- ---- joinEnds and foldEnds

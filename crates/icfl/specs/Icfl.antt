@@ -6,7 +6,7 @@ use Prim.Native.Nat.{ℕ, _+_, _*_, _≤_, _<_}
 use lib.ListN.{length, take, drop, getD}
 use lib.Dec.{eqb}
 use Rattle.words.specs.Factorizations.{icflEnds}
-use Rattle.words.specs.Breaks.{Breaks, foldEnds}
+use Rattle.words.specs.scan.Breaks.{Breaks, foldEnds}
 use Rattle.checks.specs.Refusals.{firstRefusal, recordRefusal, workRefusal, resultRefusal}
 use Rattle.checks.specs.Answers.{Filled}
 use Rattle.checks.specs.declared.Counted.{Counted}

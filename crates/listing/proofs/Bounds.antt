@@ -10,7 +10,7 @@ use native.Mathlib.Omega.{arith}
 use lib.Dec.{eqb}
 use lib.ListN.{length, getD, length-append, List·getD-eq-default}
 use Rattle.words.specs.Factorizations.{icflEnds, cflInEnds}
-use Rattle.words.specs.EndsRise.{RisesTo, there, later, rises-few, rises-inside, rises-some, icfl-ends-rise, cfl-in-ends-rise}
+use Rattle.words.specs.places.EndsRise.{RisesTo, there, later, rises-few, rises-inside, rises-some, icfl-ends-rise, cfl-in-ends-rise}
 use Rattle.checks.proofs.RefusalLaws.{Accepted}
 use Rattle.reading.specs.Summary.{lengthsFrom, greatest, startOf, bandsOf, summaryAs}
 use Rattle.reading.proofs.SummaryLaws.{count-most, bands-length, bands-at}

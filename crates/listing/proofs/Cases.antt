@@ -8,7 +8,7 @@ use borrow.Author.Tests.{le-ltb}
 use lib.ListN.{length, take, drop, length-append}
 use lib.Seq.{take-at}
 use Rattle.words.specs.Factorizations.{icflEnds, cflInEnds}
-use Rattle.words.specs.EndsRise.{rises-few, icfl-ends-rise, cfl-in-ends-rise}
+use Rattle.words.specs.places.EndsRise.{rises-few, icfl-ends-rise, cfl-in-ends-rise}
 use Rattle.checks.specs.Refusals.{firstRefusal, recordRefusal, workRefusal, resultRefusal}
 use Rattle.checks.specs.Answers.{countedAs, writtenAs}
 use Rattle.checks.specs.declared.Counted.{Counted}

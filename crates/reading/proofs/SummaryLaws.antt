@@ -7,7 +7,7 @@ use native.Mathlib.Omega.{arith}
 use native.Mathlib.Nat.{add-zero}
 use lib.ListN.{length, getD}
 use borrow.Author.Tests.{eq-eqb, ne-eqb}
-use Rattle.words.specs.Decisions.{Decides, holds, fails, eqb-test}
+use Rattle.words.specs.orders.Decisions.{Decides, holds, fails, eqb-test}
 use Rattle.reading.specs.Summary.{lengthsFrom, startOf, bitLength, countOf, bandsOf}
 use Rattle.reading.specs.declared.summary.Summary.{Summary}
 

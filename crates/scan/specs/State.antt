@@ -4,7 +4,7 @@ use mathlib.Core.List.{List}
 use Prim.Native.Nat.{ℕ, _+_, _≤_, _<_}
 use lib.ListN.{length}
 use lib.Dec.{eqb}
-use Rattle.words.specs.Scanned.{Scanned, Stops}
+use Rattle.words.specs.scan.Scanned.{Scanned, Stops}
 use Rattle.scan.specs.declared.Scan.{Scan}
 
 abbrev pub startState : Scan

@@ -10,11 +10,11 @@ use lib.ListN.{length, take, drop, getD, length-drop}
 use lib.Seq.{getD-take, getD-drop, length-take-le}
 use lib.Dec.{ltb}
 use Rattle.words.specs.Words.{_≺_, mismatch, isInverseBefore}
-use Rattle.words.specs.InverseLaws.{_≼_, won, pre, ≼-antisym, ≺-≼, ≺-irrefl}
-use Rattle.words.specs.Decisions.{Decides, holds, fails, true-decides, false-decides, leb-test}
-use Rattle.words.specs.WordTests.{inverse-before-test}
+use Rattle.words.specs.orders.InverseLaws.{_≼_, won, pre, ≼-antisym, ≺-≼, ≺-irrefl}
+use Rattle.words.specs.orders.Decisions.{Decides, holds, fails, true-decides, false-decides, leb-test}
+use Rattle.words.specs.lyndon.WordTests.{inverse-before-test}
 use Rattle.table.specs.Steps.{Neighbours}
-use Rattle.compare.proofs.CommonLength.{Agree, matched-none, matched-more, agree-sym, agree-⊑, agree-shorter, agree-≪, agree-≪-sym}
+use Rattle.words.specs.orders.CommonLength.{Agree, matched-none, matched-more, agree-sym, agree-⊑, agree-shorter, agree-≪, agree-≪-sym}
 
 before-true : {u v : List ℕ} → u ≺ v → true ≡ isInverseBefore u v
 before-true {u} {v} h = sym (true-decides (inverse-before-test u v) h)

@@ -7,8 +7,8 @@ use native.Mathlib.Omega.{arith}
 use lib.ListN.{length, take, drop, getD, set, length-append, length-drop, length-set, take-append-drop, List·getD-append}
 use lib.Seq.{length-take-le, take-suc, drop-cons, drop-at, set-at, getD-drop, getD-append-add}
 use Rattle.words.specs.Factorizations.{lyndonTable}
-use Rattle.words.specs.AntiLyndonLaws.{longest-is}
-use Rattle.words.specs.LyndonTableCflIn.{lyndon-table-length, lyndon-table-at}
+use Rattle.words.specs.lyndon.AntiLyndonLaws.{longest-is}
+use Rattle.words.specs.table.LyndonTableCflIn.{lyndon-table-length, lyndon-table-at}
 use Rattle.checks.specs.Answers.{writtenAs}
 use Rattle.table.specs.Steps.{Fits, NextKnown}
 use Rattle.table.proofs.MergeLaws.{table-end}

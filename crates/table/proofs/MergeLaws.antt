@@ -11,11 +11,11 @@ use lib.ListN.{length, take, drop, getD, length-drop, List·getD-eq-default}
 use lib.Seq.{drop-cons}
 use Rattle.words.specs.Words.{isInverseBefore}
 use Rattle.words.specs.Factorizations.{longestAntiLyndon, lyndonTable}
-use Rattle.words.specs.Decisions.{decides-true, decides-false}
-use Rattle.words.specs.WordTests.{inverse-before-test}
-use Rattle.words.specs.AntiLyndonLaws.{longest-is, longest-positive}
-use Rattle.words.specs.LyndonTableCflIn.{lyndon-table-length, lyndon-table-at}
-use Rattle.words.specs.Merging.{Merged, merged-letter, merged-more, merged-stops, merged-ends}
+use Rattle.words.specs.orders.Decisions.{decides-true, decides-false}
+use Rattle.words.specs.lyndon.WordTests.{inverse-before-test}
+use Rattle.words.specs.lyndon.AntiLyndonLaws.{longest-is, longest-positive}
+use Rattle.words.specs.table.LyndonTableCflIn.{lyndon-table-length, lyndon-table-at}
+use Rattle.words.specs.table.Merging.{Merged, merged-letter, merged-more, merged-stops, merged-ends}
 
 module _ {w : List ℕ} {i j : ℕ} (x : Merged w i j) where
   -- the word from i to j is the longest at i

@@ -4,7 +4,7 @@ use mathlib.Core.List.{List}
 use Prim.Native.Nat.{ℕ, _+_, _≤_, _<_}
 use lib.ListN.{length, getD}
 use Rattle.words.specs.Factorizations.{lyndonTable}
-use Rattle.words.specs.Merging.{Merged}
+use Rattle.words.specs.table.Merging.{Merged}
 
 -- the entries fit into 16 bits, and the buffer has room for them
 pub record Fits (w out : List ℕ) : Type 0 where

@@ -9,6 +9,7 @@
 --     InverseLyndon               falling word                Definition 3.1       exceeds each nonempty proper suffix
 --     AntiLyndon                  strict word                 Proposition 7.3      comes before each nonempty proper suffix, in ≺
 --     isInverseLyndon, isAntiLyndon                                                tests that decide these two
+--     commonLength                longest common extension                         the number of equal leading letters
 --     sign                        comparison                  Definition 2.4       −1, 0, +1 over a range and two starts
 --   Factorizations
 --     failingLength               L                           Lemma 4.8            length of the shortest failing prefix
@@ -21,50 +22,25 @@
 --     DominatedBy                                                                  every nonempty suffix of one is ≪ the other
 --     BelowByBorders              request 109                                      the same said by borders
 --     Demand3                     demand 3                    Corollary 7.2, 7.13  the demand's sentences, a field each
+--
+-- The laws stand in folders by subject; the file beside a folder says what is in it.
+--   orders       ⊑, ≪, <ₗ, ≺ and the sign; tests that decide
+--   lyndon       inverse Lyndon and anti-Lyndon words; suffixes of a product
+--   icfl         the factorization into inverse Lyndon words: its factors and one step
+--   uniqueness   it is the only one of its kind
+--   cfl_in       the factorization into anti-Lyndon words
+--   places       lists of words by their ends; demand 3
+--   scan         what the loops of the cuts and of the test know
+--   table        the Lyndon table
 pub mod Words
 pub mod Factorizations
 pub mod Statements
--- the table of examples, and demand 3
 pub mod Examples
-pub mod Demand3
--- the factorization into inverse Lyndon words
-pub mod IcflConcat
-pub mod IcflDominated
-pub mod IcflUnique
-pub mod IcflUnfold
--- the factorization into anti-Lyndon words, and the table
-pub mod CflInIs
-pub mod CflInUnique
-pub mod CflInFirst
-pub mod CflInUnfold
-pub mod LyndonTableCflIn
-pub mod LyndonTableNext
--- laws of the orders, the words and the tests
-pub mod PrefixLaws
-pub mod MismatchLaws
-pub mod LexLaws
-pub mod InverseLaws
-pub mod Decisions
-pub mod WordTests
-pub mod AntiLyndonLaws
-pub mod SignLaws
--- laws of lists of words and their places
-pub mod Suffixes
-pub mod LinkedLaws
-pub mod FirstSuffixes
-pub mod Ends
-pub mod Neighbours
-pub mod Ranges
-pub mod EndsRise
--- one step of the factorization
-pub mod Extension
-pub mod Failing
-pub mod Border
-pub mod IcflFactors
-pub mod DominatedUnique
--- the scan: one letter after another
-pub mod Period
-pub mod Scanned
-pub mod Borders
-pub mod Breaks
-pub mod Merging
+pub mod orders
+pub mod lyndon
+pub mod icfl
+pub mod uniqueness
+pub mod cfl_in
+pub mod places
+pub mod scan
+pub mod table

@@ -3,7 +3,7 @@
 use mathlib.Core.Path.{_≡_}
 use mathlib.Core.List.{List, [], _∷_, _++_}
 use mathlib.Core.Bool.{Bool, true, false}
-use Prim.Native.Nat.{ℕ, _-_, _<_, compare, Ordering·lt, Ordering·eq, Ordering·gt}
+use Prim.Native.Nat.{ℕ, suc, _-_, _<_, compare, Ordering·lt, Ordering·eq, Ordering·gt}
 use lib.ListN.{length, drop}
 use lib.Seq.{slice}
 use lib.IntN.{ℤ, pos, negsuc}
@@ -80,6 +80,12 @@ unfoldable pub isAntiLyndon : List ℕ → Bool
 unfolding isInverseBefore everySuffix
 isAntiLyndon [] = false
 isAntiLyndon (a ∷ v) = everySuffix (λ s. isInverseBefore (a ∷ v) s) v
+
+-- longest common extension: the number of equal leading letters
+unfoldable pub commonLength : List ℕ → List ℕ → ℕ
+commonLength [] y = 0
+commonLength (a ∷ x) [] = 0
+commonLength (a ∷ x) (b ∷ y) = elim (eqb a b) [ true ↦ suc (commonLength x y) | false ↦ 0 ]
 
 -- the comparison: "It compares the two remainders of the stretch in the inverse order: −1 if the first start's comes first,
 -- 0 if the starts are equal, +1 otherwise." The stretch is slice first end w.

@@ -1,2 +1,2 @@
-// A theory crate: everything is in specs/. The limit stands here for the crates that check records.
-pub const MOST_LETTERS: usize = 4096;
+//! The theory of words and their two factorizations. Everything is in specs/: Words, Factorizations and Statements have the definitions.
+pub const FACTORIZATIONS: usize = 2;

@@ -3,8 +3,7 @@ use borrow.Author.Needs.{needs}
 use mathlib.Core.Path.{_≡_}
 use Prim.Native.Nat.{_-_}
 use native.Mathlib.Omega.{arith}
-use Rattle.compare.proofs.CommonLength.{matched-more, agree-unique}
-use Rattle.compare.specs.Steps.{Matched}
+use Rattle.words.specs.orders.CommonLength.{Matched, matched-more, agree-unique}
 use Rattle.compare.proofs.common.common_length.Statement.{statement}
 use Rattle.compare.proofs.common.common_length.Tie as tie
 

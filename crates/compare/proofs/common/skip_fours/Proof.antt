@@ -3,9 +3,9 @@ use borrow.Author.Needs.{needs}
 use Prim.Native.Nat.{_+_, _-_}
 use native.Mathlib.Omega.{arith}
 use borrow.Author.Tests.{not-false}
-use Rattle.words.specs.Decisions.{decides-true}
-use Rattle.compare.specs.Steps.{BothHave, Matched}
-use Rattle.compare.proofs.CommonLength.{matched-none}
+use Rattle.words.specs.orders.Decisions.{decides-true}
+use Rattle.compare.specs.Steps.{BothHave}
+use Rattle.words.specs.orders.CommonLength.{Matched, matched-none}
 use Rattle.compare.proofs.FourLaws.{four-more}
 use Rattle.compare.proofs.common.skip_fours.Statement.{statement}
 use Rattle.compare.proofs.common.skip_fours.Tie as tie

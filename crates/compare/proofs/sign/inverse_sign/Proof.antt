@@ -2,8 +2,8 @@
 use borrow.Author.Needs.{needs}
 use native.Mathlib.Omega.{arith}
 use Rattle.words.specs.Words.{mismatch}
-use Rattle.compare.proofs.CommonLength.{Agree, common-agree, agree-sym, agree-same, agree-shorter, agree-≪, agree-≪-sym}
-use Rattle.compare.proofs.InverseSignLaws.{before, same, after, inverse-sign-found}
+use Rattle.words.specs.orders.CommonLength.{Agree, common-agree, agree-sym, agree-same, agree-shorter, agree-≪, agree-≪-sym}
+use Rattle.words.specs.orders.WordSigns.{before, same, after}
 use Rattle.compare.proofs.sign.inverse_sign.Statement.{statement}
 use Rattle.compare.proofs.sign.inverse_sign.Tie as tie
 
@@ -26,30 +26,28 @@ returns : tie.Need-returns
 returns c =
     let b = c .before .before .before in
     let m = b .before .shorter .ensures in
-    inverse-sign-found (after (mismatch (agree-≪ (agree (b .before .before)) (omega (arith, m, b .if1 .taken)) (omega (arith, m, b .if1 .taken)) (c .if2 .taken))))
+    after (mismatch (agree-≪ (agree (b .before .before)) (omega (arith, m, b .if1 .taken)) (omega (arith, m, b .if1 .taken)) (c .if2 .taken)))
 
 returns-2 : tie.Need-returns-2
 returns-2 c =
     let b = c .before .before .before in
     let m = b .before .shorter .ensures in
-    inverse-sign-found (before (mismatch (agree-≪-sym (agree (b .before .before)) (omega (arith, m, b .if1 .taken)) (omega (arith, m, b .if1 .taken)) (c .if2 .left))))
+    before (mismatch (agree-≪-sym (agree (b .before .before)) (omega (arith, m, b .if1 .taken)) (omega (arith, m, b .if1 .taken)) (c .if2 .left)))
 
 returns-3 : tie.Need-returns-3
 returns-3 c =
     let b = c .before in
-    inverse-sign-found (before (agree-shorter (agree (b .before .before)) (omega (arith, b .before .shorter .ensures, b .if1 .left, c .if3 .taken)) (c .if3 .taken)))
+    before (agree-shorter (agree (b .before .before)) (omega (arith, b .before .shorter .ensures, b .if1 .left, c .if3 .taken)) (c .if3 .taken))
 
 returns-4 : tie.Need-returns-4
 returns-4 c =
     let b = c .before .before in
-    inverse-sign-found
-    (after (agree-shorter (agree-sym (agree (b .before .before))) (omega (arith, b .before .shorter .ensures, b .if1 .left, c .if4 .taken)) (c .if4 .taken)))
+    after (agree-shorter (agree-sym (agree (b .before .before))) (omega (arith, b .before .shorter .ensures, b .if1 .left, c .if4 .taken)) (c .if4 .taken))
 
 returns-5 : tie.Need-returns-5
 returns-5 c =
     let b = c .before .before in
-    inverse-sign-found
-    (same (agree-same (agree (b .before .before)) (omega (arith, b .before .shorter .ensures, b .if1 .left, c .if4 .left)) (c .before .if3 .left)))
+    same (agree-same (agree (b .before .before)) (omega (arith, b .before .shorter .ensures, b .if1 .left, c .if4 .left)) (c .before .if3 .left))
 
 pub inverse-sign-spec : {M : Type 1} → statement M
 inverse-sign-spec =

@@ -1,13 +1,13 @@
 -- The lines have passed, so both starts lie in a range of the word, and the sign is that of the two remainders.
 use borrow.Author.Needs.{needs}
-use mathlib.Core.Path.{_≡_, ap, _∙_}
+use mathlib.Core.Path.{_≡_, ap}
 use native.Mathlib.Omega.{arith}
 use mir.Syntax.{w8}
 use mir.Facts.{toZ-ofZ}
 use Rattle.compare.specs.declared.suffixes.Comparison.the-variants.{Sign}
 use Rattle.compare.specs.Compare.{compareRefusal}
 use Rattle.checks.proofs.RefusalLaws.{passed}
-use Rattle.compare.proofs.InverseSignLaws.{sign-parts}
+use Rattle.words.specs.orders.WordSigns.{sign-parts}
 use Rattle.compare.proofs.ComparisonLaws.{Within, all-accepted, comparison-refused}
 use Rattle.compare.proofs.suffixes.compare_suffixes.Statement.{statement}
 use Rattle.compare.proofs.suffixes.compare_suffixes.Tie as tie
@@ -62,7 +62,7 @@ returns-2 : tie.Need-returns-2
 returns-2 c =
     let h = within (c .before .before .before .before) in
     rw (none (c .before .before .before .before), toZ-ofZ {w = w8} (record { sfits = c .inverse-sign .ok }))
-    (ap Sign (c .inverse-sign .ensures ∙ sign-parts _ _ _ _ _ (h .inside) (h .start-from) (h .start-below) (h .other-from) (h .other-below)))
+    (ap Sign (sign-parts _ _ _ _ _ (h .inside) (h .start-from) (h .start-below) (h .other-from) (h .other-below) (c .inverse-sign .ensures)))
 
 pub compare-suffixes-spec : {M : Type 1} → statement M
 compare-suffixes-spec =

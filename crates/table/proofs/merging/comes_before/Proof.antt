@@ -1,7 +1,7 @@
 -- The common length shows where the words part: they differ there, or one ends, and the shorter one is a prefix.
 use borrow.Author.Needs.{needs}
 use native.Mathlib.Omega.{arith}
-use Rattle.compare.proofs.CommonLength.{Agree, common-agree}
+use Rattle.words.specs.orders.CommonLength.{Agree, common-agree}
 use Rattle.table.proofs.BeforeLaws.{letters-decide, lengths-decide}
 use Rattle.table.proofs.merging.comes_before.Statement.{statement}
 use Rattle.table.proofs.merging.comes_before.Tie as tie

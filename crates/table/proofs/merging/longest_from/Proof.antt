@@ -6,7 +6,7 @@ use native.Mathlib.Omega.{arith}
 use lib.ListN.{length, getD}
 use borrow.Author.Tests.{not-true, not-false}
 use Rattle.words.specs.Factorizations.{lyndonTable}
-use Rattle.words.specs.Merging.{Merged}
+use Rattle.words.specs.table.Merging.{Merged}
 use Rattle.table.proofs.MergeLaws.{turn-fits, turn-joins, turn-stops, turns-end}
 use Rattle.table.proofs.merging.longest_from.Statement.{statement}
 use Rattle.table.proofs.merging.longest_from.Tie as tie

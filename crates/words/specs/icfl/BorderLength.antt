@@ -1,0 +1,119 @@
+-- |r| by letters, as paper 01 has it, is |r| by the order: extension-is says that failingLength, borderLength and prefixLength of a
+-- nonempty word that is not inverse Lyndon give an Extension. That 2|r| + 2 ≤ L is needed only here.
+use mathlib.Core.Path.{_≡_, refl, sym, subst}
+use mathlib.Core.List.{List, [], _∷_, _++_}
+use Prim.Native.Nat.{ℕ, suc, _+_, _-_, _*_, _≤_, _<_}
+use native.Mathlib.Omega.{arith}
+use lib.ListN.{length, take, drop, getD}
+use lib.Seq.{take-suc, length-take-le, getD-take}
+use lib.ListN.{length-drop}
+use Rattle.words.specs.Words.{_≪_, here, _⊑_, InverseLyndon}
+use Rattle.words.specs.Factorizations.{isBorder, failingLength, borderLength, prefixLength}
+use Rattle.words.specs.orders.PrefixLaws.{⊑-refl, ⊑-trans, ⊑-both, ⊑-whole, take-⊑, take-⊑-take}
+use Rattle.words.specs.orders.MismatchLaws.{≪-extend, ≪-under, ≪-last}
+use Rattle.words.specs.orders.LexLaws.{≤ₗ-not-≪}
+use Rattle.words.specs.orders.Decisions.{Decides, decides-and, leb-test, least-unique}
+use Rattle.words.specs.lyndon.WordTests.{same-test}
+use Rattle.words.specs.icfl.Extension.{Extension, extension-below, extension-prefix}
+use Rattle.words.specs.icfl.Failing.{Failing, failing-is, Shortest, shortest-is, suffix-parts, extension-at}
+
+abbrev pub Border : List ℕ → ℕ → ℕ → Type 0
+Border w l k = (2 * k + 2 ≤ l) × ((take k w ≡ take k (drop (l - 1 - k) w)) × (getD w k 0 < getD w (l - 1) 0))
+
+pub border-test : (w : List ℕ) (l k : ℕ) → Decides (Border w l k) (isBorder w l k)
+unfolding isBorder
+border-test w l k = decides-and (leb-test _ _) (decides-and (same-test _ _) (leb-test _ _))
+
+module _ (w : List ℕ) (p r : ℕ) (x : Failing w (suc (p + r))) where
+  place-p : suc (p + r) - 1 - r ≡ p
+  place-p = omega arith
+
+  place-b : suc (p + r) - 1 ≡ p + r
+  place-b = omega arith
+
+  -- by letters, so by the order
+  border-above : Border w (suc (p + r)) r → take (suc (p + r)) w ≪ drop p (take (suc (p + r)) w)
+  border-above k =
+      let e : take r w ≡ take r (drop p w) = rw place-p at (k .1 .0) in
+      let h : getD w r 0 < getD w (p + r) 0 = rw place-b at (k .1 .1) in
+      let f : (take r w ++ getD w r 0 ∷ []) ⊑ take (suc (p + r)) w = rw (take-suc w r 0 (omega (arith, x .inside))) at (take-⊑-take (suc r) (suc (p + r)) w (omega arith)) in
+      rw (suffix-parts w p r x, ← e) (≪-extend (≪-under (take r w) (here h)) f (⊑-refl _))
+
+  -- by the order, and shortest, so by letters
+  shortest-border : Shortest (take (suc (p + r)) w) r → Border w (suc (p + r)) r
+  shortest-border y =
+      let k : Extension w (take p w) (take r (drop p w)) (getD w (p + r) 0) (drop (suc (p + r)) w) = extension-at w p r x y in
+      let size-p : length (take p w) ≡ p = length-take-le p w (omega (arith, x .inside)) in
+      let size-r : length (take r (drop p w)) ≡ r = length-take-le r (drop p w) (rw length-drop (omega (arith, x .inside))) in
+      let q = ≪-last (extension-prefix k) (extension-below k) in
+      let l : r < p = rw (size-p, size-r) at (q .0) in
+      let h : getD w r 0 < getD w (p + r) 0 = rw (size-r, getD-take p w r 0 l) at (q .1) in
+      let n : length (take r w) ≡ r = length-take-le r w (omega (arith, x .inside)) in
+      let e : take r (drop p w) ≡ take r w = ⊑-whole (⊑-both (⊑-trans (extension-prefix k) (take-⊑ p w)) (take-⊑ r w) (omega arith)) (omega arith) in
+      (omega arith, (rw place-p (sym e), rw place-b h))
+
+-- the same at a length l and r < l
+module _ (w : List ℕ) (l r : ℕ) (x : Failing w l) (b : r < l) where
+  parts : suc (l - 1 - r + r) ≡ l
+  parts = omega arith
+
+  failing-parts : Failing w (suc (l - 1 - r + r))
+  failing-parts = subst (λ (n : ℕ). Failing w n) (sym parts) x
+
+  by-order : Border w l r → take l w ≪ drop (l - 1 - r) (take l w)
+  by-order k = rw parts at (border-above w (l - 1 - r) r failing-parts (subst (λ (n : ℕ). Border w n r) (sym parts) k))
+
+  by-letters : Shortest (take l w) r → Border w l r
+  by-letters y = rw parts at (shortest-border w (l - 1 - r) r failing-parts (subst (λ (n : ℕ). Shortest (take n w) r) (sym parts) y))
+
+-- the shortest by the order is the least by letters
+pub border-least : (w : List ℕ) (r : ℕ) → Failing w (failingLength w) → Shortest (take (failingLength w) w) r → borderLength w ≡ r
+unfolding borderLength
+border-least w r x y = least-unique (λ k. Border w l k) (λ k. isBorder w l k) (border-test w l) l 0 r (by-letters w l r x b y) (omega arith) (omega (arith, b))
+    (λ j a c k. ≤ₗ-not-≪ (y .shorter (l - 1 - j) (omega (arith, n, b))) (by-order w l j x (omega (arith, b)) k))
+  where
+    l : ℕ
+    l = failingLength w
+
+    n : length (take l w) ≡ l
+    n = length-take-le l w (x .inside)
+
+    b : r < l
+    b = rw n at (y .inside)
+
+pub prefix-length : (w : List ℕ) → prefixLength w ≡ failingLength w - borderLength w - 1
+unfolding prefixLength
+prefix-length w = refl
+
+abbrev pub StepAt : List ℕ → ℕ → ℕ → Type 0
+StepAt w p r = Extension w (take p w) (take r (drop p w)) (getD w (p + r) 0) (drop (suc (p + r)) w)
+
+-- what one step of the factorization is
+pub record Step (w : List ℕ) : Type 0 where
+  pub failing : Failing w (suc (prefixLength w + borderLength w))
+  pub extension : StepAt w (prefixLength w) (borderLength w)
+
+pub step-is : (w : List ℕ) → 0 < length w → ¬ InverseLyndon w → Step w
+unfolding prefixLength
+step-is w s n = record { failing = failing; extension = extension-at w (prefixLength w) (borderLength w) failing shortest }
+  where
+    x : Failing w (failingLength w)
+    x = failing-is w s n
+
+    size : length (take (failingLength w) w) ≡ failingLength w
+    size = length-take-le (failingLength w) w (x .inside)
+
+    found : (r : ℕ) × Shortest (take (failingLength w) w) r
+    found = shortest-is (take (failingLength w) w) (rw size (x .positive)) (x .fails)
+
+    r-is : borderLength w ≡ found .0
+    r-is = border-least w (found .0) x (found .1)
+
+    sum : failingLength w ≡ suc (prefixLength w + borderLength w)
+    sum = omega (arith, rw size at (found .1 .inside), r-is)
+
+    failing : Failing w (suc (prefixLength w + borderLength w))
+    failing = subst (λ (n : ℕ). Failing w n) sum x
+
+    shortest : Shortest (take (suc (prefixLength w + borderLength w)) w) (borderLength w)
+    shortest = subst (λ (n : ℕ). Shortest (take n w) (borderLength w)) sum (rw r-is (found .1))

@@ -1,0 +1,104 @@
+-- Laws of ≪, and the one case split that both orders are made of: compared x y (THEORY: four cases, exactly one holds).
+use mathlib.Core.Path.{_≡_}
+use mathlib.Core.List.{List, [], _∷_, _++_}
+use Prim.Native.Nat.{ℕ, zero, suc, _<_, suc-le-suc}
+use native.Mathlib.Nat.{lt-trans}
+use native.Mathlib.Omega.{arith}
+use native.Mathlib.Decide.{decLt}
+use lib.ListN.{length, getD}
+use Rattle.words.specs.Words.{_≪_, here, there, _⊑_, done, step}
+use Rattle.words.specs.orders.PrefixLaws.{⊑-refl}
+
+pub ≪-trans : {x y z : List ℕ} → x ≪ y → y ≪ z → x ≪ z
+≪-trans (here h) (here k) = here (lt-trans h k)
+≪-trans (here h) (there t) = here h
+≪-trans (there s) (here k) = here k
+≪-trans (there s) (there t) = there (≪-trans s t)
+
+-- a mismatch excludes a prefix
+pub ≪-not-⊑ : {x y : List ℕ} → x ≪ y → x ⊑ y → ⊥
+≪-not-⊑ (here h) (step p) = omega arith
+≪-not-⊑ (there t) (step p) = ≪-not-⊑ t p
+
+pub ≪-asym : {x y : List ℕ} → x ≪ y → y ≪ x → ⊥
+≪-asym h k = ≪-not-⊑ (≪-trans h k) (⊑-refl _)
+
+pub ≪-left-nonempty : {x y : List ℕ} → x ≪ y → 0 < length x
+≪-left-nonempty (here h) = omega arith
+≪-left-nonempty (there h) = omega arith
+
+pub ≪-right-nonempty : {x y : List ℕ} → x ≪ y → 0 < length y
+≪-right-nonempty (here h) = omega arith
+≪-right-nonempty (there h) = omega arith
+
+-- ---- append
+
+-- a mismatch stays whatever follows (source 004, Lemma 2.3)
+pub ≪-append : {x y : List ℕ} (u v : List ℕ) → x ≪ y → (x ++ u) ≪ (y ++ v)
+≪-append u v (here h) = here h
+≪-append u v (there t) = there (≪-append u v t)
+
+pub ≪-extend : {x x′ y y′ : List ℕ} → x ≪ y → x ⊑ x′ → y ⊑ y′ → x′ ≪ y′
+≪-extend (here h) (step p) (step q) = here h
+≪-extend (there t) (step p) (step q) = there (≪-extend t p q)
+
+pub ≪-under : (p : List ℕ) {x y : List ℕ} → x ≪ y → (p ++ x) ≪ (p ++ y)
+≪-under [] h = h
+≪-under (a ∷ p) h = there (≪-under p h)
+
+pub ≪-cancel : (p : List ℕ) {x y : List ℕ} → (p ++ x) ≪ (p ++ y) → x ≪ y
+≪-cancel [] h = h
+≪-cancel (a ∷ p) (here h) = absurd (omega arith)
+≪-cancel (a ∷ p) (there h) = ≪-cancel p h
+
+-- ---- letters
+
+pub ≪-letters : (k : ℕ) (x y : List ℕ) → k < length x → k < length y → ((t : ℕ) → t < k → getD x t 0 ≡ getD y t 0) → getD x k 0 < getD y k 0 → x ≪ y
+≪-letters k [] y p q e h = absurd (omega arith)
+≪-letters k (a ∷ x) [] p q e h = absurd (omega arith)
+≪-letters zero (a ∷ x) (b ∷ y) p q e h = here h
+≪-letters (suc k) (a ∷ x) (b ∷ y) p q e h =
+    rw (← e 0 (omega arith)) (there (≪-letters k x y (omega arith) (omega arith) (λ t l. e (suc t) (omega arith)) h))
+
+-- y, which begins with x, is below x ++ b ∷ []: its next letter is below b
+pub ≪-last : {x y : List ℕ} {b : ℕ} → x ⊑ y → y ≪ (x ++ b ∷ []) → (length x < length y) × (getD y (length x) 0 < b)
+≪-last done (here h) = (omega arith, h)
+≪-last (step p) (here h) = absurd (omega arith)
+≪-last (step p) (there h) = let q = ≪-last p h in (omega (arith, q .0), q .1)
+
+-- ---- the case splits
+
+pub data Tri (a b : ℕ) : Type 0 where
+  lt : a < b → Tri a b
+  eq : a ≡ b → Tri a b
+  gt : b < a → Tri a b
+
+pub tri : (a b : ℕ) → Tri a b
+tri a b = go (decLt a b) (decLt b a)
+  where
+    go : Dec (a < b) → Dec (b < a) → Tri a b
+    go (yes h) d = lt h
+    go (no h) (yes k) = gt k
+    go (no h) (no k) = eq (omega arith)
+
+pub data Compared (x y : List ℕ) : Type 0 where
+  less : x ≪ y → Compared x y
+  greater : y ≪ x → Compared x y
+  within : x ⊑ y → Compared x y
+  beyond : y ⊑ x → length y < length x → Compared x y
+
+pub compared : (x y : List ℕ) → Compared x y
+compared [] y = within done
+compared (a ∷ x) [] = beyond done (omega arith)
+compared (a ∷ x) (b ∷ y) = go (tri a b) (compared x y)
+  where
+    under : Compared x y → Compared (a ∷ x) (a ∷ y)
+    under (less h) = less (there h)
+    under (greater h) = greater (there h)
+    under (within h) = within (step h)
+    under (beyond h l) = beyond (step h) (suc-le-suc l)
+
+    go : Tri a b → Compared x y → Compared (a ∷ x) (b ∷ y)
+    go (lt h) k = less (here h)
+    go (gt h) k = greater (here h)
+    go (eq e) k = rw (← e) (under k)

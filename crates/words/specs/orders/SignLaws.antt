@@ -1,0 +1,48 @@
+-- What the sign says (sign-is), and when two ranges give the same sign (sign-same-order).
+use mathlib.Core.Path.{_≡_, refl}
+use mathlib.Core.List.{List}
+use mathlib.Core.Bool.{Bool, true, false}
+use Prim.Native.Nat.{ℕ, _-_}
+use lib.ListN.{drop}
+use lib.Seq.{slice}
+use lib.IntN.{ℤ, pos, negsuc}
+use Rattle.words.specs.Words.{_≺_, sign}
+use Rattle.words.specs.orders.Decisions.{Decides, holds, fails, eqb-test}
+use Rattle.words.specs.lyndon.WordTests.{inverse-before-test}
+
+-- the remainder of the range from first to end that begins at start
+abbrev pub remainder : List ℕ → ℕ → ℕ → ℕ → List ℕ
+remainder w first end start = drop (start - first) (slice first end w)
+
+pub data SignOf (w : List ℕ) (first end start other : ℕ) : ℤ → Type 0 where
+  before : ¬ (start ≡ other) → remainder w first end start ≺ remainder w first end other → SignOf w first end start other (negsuc 0)
+  equal : start ≡ other → SignOf w first end start other (pos 0)
+  after : ¬ (start ≡ other) → ¬ (remainder w first end start ≺ remainder w first end other) → SignOf w first end start other (pos 1)
+
+pub sign-is : (w : List ℕ) (first end start other : ℕ) → SignOf w first end start other (sign w first end start other)
+unfolding sign
+sign-is w first end start other = go (eqb-test start other) (inverse-before-test (remainder w first end start) (remainder w first end other))
+  where
+    go : {s t : Bool} → Decides (start ≡ other) s → Decides (remainder w first end start ≺ remainder w first end other) t
+        → SignOf w first end start other (elim s [ true ↦ pos 0 | false ↦ elim t [ true ↦ negsuc 0 | false ↦ pos 1 ] ])
+    go (holds e) d = equal e
+    go (fails n) (holds h) = before n h
+    go (fails n) (fails h) = after n h
+
+-- two ranges in which the remainders come in the same order
+pub sign-same-order : (w : List ℕ) (first end first′ end′ start other : ℕ)
+    → (remainder w first end start ≺ remainder w first end other → remainder w first′ end′ start ≺ remainder w first′ end′ other)
+    → (remainder w first′ end′ start ≺ remainder w first′ end′ other → remainder w first end start ≺ remainder w first end other)
+    → sign w first end start other ≡ sign w first′ end′ start other
+sign-same-order w first end first′ end′ start other f g = go (sign-is w first end start other) (sign-is w first′ end′ start other)
+  where
+    go : {s t : ℤ} → SignOf w first end start other s → SignOf w first′ end′ start other t → s ≡ t
+    go (before n h) (before m k) = refl
+    go (before n h) (equal e) = absurd (n e)
+    go (before n h) (after m k) = absurd (k (f h))
+    go (equal e) (before m k) = absurd (m e)
+    go (equal e) (equal d) = refl
+    go (equal e) (after m k) = absurd (m e)
+    go (after n h) (before m k) = absurd (h (g k))
+    go (after n h) (equal e) = absurd (n e)
+    go (after n h) (after m k) = refl

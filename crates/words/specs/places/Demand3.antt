@@ -1,0 +1,117 @@
+-- THEOREM demand-3. Demand 3 whole, for every word, over the ends that the cuts write and the sign that the comparison answers (the
+-- paper's records have 1 to 4,096 letters; no bound is needed). It rests on icfl-dominated, on the theorems of cflIn, and on one fact: the
+-- suffix at a boundary of icfl comes no later than any earlier suffix (icfl-first).
+use mathlib.Core.Path.{_≡_, ap, subst}
+use mathlib.Core.List.{List, _++_, List·Memᴰ}
+use Prim.Native.Nat.{ℕ, _+_, _-_, _≤_, _<_}
+use native.Mathlib.Omega.{arith}
+use native.Mathlib.Decide.{decLt}
+use lib.ListN.{length, take, drop}
+use lib.Seq.{slice, drop-drop}
+use Rattle.words.specs.Words.{_≪_, _⊑_, InverseLyndon}
+use Rattle.words.specs.Factorizations.{icfl, cflIn, icflEnds, cflInEnds}
+use Rattle.words.specs.Statements.{Part, Demand3}
+use Rattle.words.specs.orders.PrefixLaws.{⊑-trans, ⊑-both, ⊑-drop, take-⊑-take}
+use Rattle.words.specs.orders.MismatchLaws.{≪-append}
+use Rattle.words.specs.orders.LexLaws.{_≤ₗ_, lost, pre}
+use Rattle.words.specs.orders.InverseLaws.{_≼_, ≼-not-≪, ≼-antisym}
+use Rattle.words.specs.lyndon.WordTests.{suffix-below}
+use Rattle.words.specs.lyndon.Suffixes.{dominated-at}
+use Rattle.words.specs.lyndon.AntiLyndonLaws.{equal-or-after-≼}
+use Rattle.words.specs.places.FirstSuffixes.{FirstSuffix, Boundary, boundary-first, boundary-inside, dominated-led}
+use Rattle.words.specs.places.Ends.{start-boundary, ends-boundary, boundary-ends, adjacent-left, adjacent-right, PartOf}
+use Rattle.words.specs.places.Neighbours.{ends-above, part-of, part-slice, part-linked, PartsOf, parts-of, parts-first, parts-second, parts-linked}
+use Rattle.words.specs.places.Ranges.{range-suffix, compatible}
+use Rattle.words.specs.icfl.IcflConcat.{icfl-concat}
+use Rattle.words.specs.icfl.IcflDominated.{icfl-dominated}
+use Rattle.words.specs.cfl_in.CflInIs.{cfl-in-is}
+use Rattle.words.specs.cfl_in.CflInFirst.{cfl-in-boundary-first, first-cfl-in-boundary}
+
+module _ (w : List ℕ) where
+  icfl-first : (e : ℕ) → Boundary e (icfl w) → FirstSuffix e w
+  icfl-first e b = rw (icfl-concat w) at (boundary-first (dominated-led (icfl-dominated w)) b)
+
+  pub icfl-inside : (e : ℕ) → Boundary e (icfl w) → e ≤ length w
+  icfl-inside e b = rw (icfl-concat w) at (boundary-inside b)
+
+  -- ---- factors by their places
+
+  factor : (i j : ℕ) → Part (icflEnds w) i j → InverseLyndon (slice i j w)
+  unfolding icflEnds
+  factor i j x =
+      let q : PartOf 0 (icfl w) i j = part-of (icfl w) x in
+      let e : slice i j w ≡ q .word = subst (λ (v : List ℕ). slice i j v ≡ q .word) (icfl-concat w) (part-slice (icfl w) i j q) in
+      rw e (part-linked (icfl w) i j q (icfl-dominated w))
+
+  factor-below : (i j k : ℕ) → Part (icflEnds w) i j → Part (icflEnds w) j k → slice i j w ≪ slice j k w
+  unfolding icflEnds
+  factor-below i j k x y =
+      let q : PartsOf 0 (icfl w) i j k = parts-of (λ m l. l .nonempty) (icfl w) (icfl-dominated w) x y in
+      let e : slice i j w ≡ q .word = subst (λ (v : List ℕ). slice i j v ≡ q .word) (icfl-concat w) (parts-first (icfl w) i j k q) in
+      let f : slice j k w ≡ q .next = subst (λ (v : List ℕ). slice j k v ≡ q .next) (icfl-concat w) (parts-second (icfl w) i j k q) in
+      rw (e, f) (dominated-at {m = q .word} (parts-linked (icfl w) i j k q (icfl-dominated w)) 0 (rw e at (factor i j x .nonempty)))
+
+  -- ---- ends
+
+  end-strict : (e : ℕ) → List·Memᴰ e (icflEnds w) → List·Memᴰ e (cflInEnds w)
+  unfolding icflEnds cflInEnds
+  end-strict e m =
+      let b : Boundary e (icfl w) = ends-boundary (icfl w) m in
+      boundary-ends (ends-above (λ m l. l .nonempty) 0 (icfl w) (icfl-dominated w) m) (first-cfl-in-boundary w e (icfl-inside e b) (icfl-first e b))
+
+  -- ---- strict pieces in one piece
+
+  -- a place of the factor from a to b whose suffix comes first: what is left of the factor from there on begins the factor
+  first-begins : (a b e : ℕ) → InverseLyndon (slice a b w) → a ≤ e → e ≤ b → b ≤ length w → FirstSuffix e w → slice e b w ⊑ slice a b w
+  first-begins a b e k l m h f = rw (drop-drop (e - a) a (take b w), let z : a + (e - a) ≡ e = omega arith in z) at (go (suffix-below k (e - a)))
+    where
+      go : drop (e - a) (slice a b w) ≤ₗ slice a b w → drop (e - a) (slice a b w) ⊑ slice a b w
+      go (pre x) = x
+      go (lost x) =
+          let z : a - a ≡ 0 = omega arith in
+          let at-e : drop e w ≡ drop (e - a) (slice a b w) ++ drop b w = range-suffix w a b (omega arith) h e l m in
+          let at-a : drop a w ≡ slice a b w ++ drop b w = rw z at (range-suffix w a b (omega arith) h a (omega arith) (omega arith)) in
+          absurd (≼-not-≪ (f a l) (rw (at-e, at-a) (≪-append (drop b w) (drop b w) x)))
+
+  nested : (a b i j k : ℕ) → Part (icflEnds w) a b → Part (cflInEnds w) i j → Part (cflInEnds w) j k → a ≤ i → k ≤ b → slice j k w ⊑ slice i j w
+  unfolding icflEnds cflInEnds
+  nested a b i j k x y z l h = go (decLt (length (slice i j w)) (length (slice j k w)))
+    where
+      q : PartsOf 0 (cflIn w) i j k
+      q = parts-of (λ m l. l .nonempty) (cflIn w) (cfl-in-is w .words) y z
+
+      after : slice j k w ≼ slice i j w
+      after =
+          let e : slice i j w ≡ q .word = subst (λ (v : List ℕ). slice i j v ≡ q .word) (cfl-in-is w .product) (parts-first (cflIn w) i j k q) in
+          let f : slice j k w ≡ q .next = subst (λ (v : List ℕ). slice j k v ≡ q .next) (cfl-in-is w .product) (parts-second (cflIn w) i j k q) in
+          rw (e, f) (equal-or-after-≼ (parts-linked (cflIn w) i j k q (cfl-in-is w .words)))
+
+      inside : b ≤ length w
+      inside = icfl-inside b (start-boundary (icfl w) (adjacent-right x))
+
+      -- a strict piece of the factor begins the factor
+      begins : (s e : ℕ) → Boundary s (cflIn w) → a ≤ s → s ≤ e → e ≤ b → slice s e w ⊑ slice a b w
+      begins s e c m n o =
+          ⊑-trans (⊑-drop s (take-⊑-take e b w o)) (first-begins a b s (factor a b x) m (omega arith) inside (cfl-in-boundary-first w s c))
+
+      first : slice i j w ⊑ slice a b w
+      first = begins i j (start-boundary (cflIn w) (adjacent-left y)) l (omega (arith, q .middle)) (omega (arith, q .end))
+
+      second : slice j k w ⊑ slice a b w
+      second = begins j k (start-boundary (cflIn w) (adjacent-right y)) (omega (arith, q .middle)) (omega (arith, q .end)) h
+
+      go : Dec (length (slice i j w) < length (slice j k w)) → slice j k w ⊑ slice i j w
+      go (no m) = ⊑-both second first (omega arith)
+      go (yes m) = absurd (omega (arith, ap length (≼-antisym after (_≼_.pre (⊑-both first second (omega arith))))))
+
+  pub demand-3 : Demand3 w
+  unfolding icflEnds
+  demand-3 = record {
+    compatible = λ first end start other m n a b c d e.
+        let f : Boundary end (icfl w) = ends-boundary (icfl w) n in
+        compatible w first end start other (icfl-first end f) (icfl-inside end f) a b c d e;
+    exceeds = λ i j x. factor i j x .exceeds;
+    loses = factor-below;
+    strict = end-strict;
+    nested = nested;
+  }
