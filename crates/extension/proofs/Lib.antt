@@ -1,2 +1,1 @@
 pub mod ScanLaws
-pub mod TestCases

@@ -11,46 +11,45 @@ use Rattle.words.specs.orders.Decisions.{true-decides, false-decides}
 use Rattle.words.specs.lyndon.WordTests.{inverse-lyndon-test}
 use Rattle.words.specs.icfl.Failing.{Failing, failing-unique, failing-not}
 use Rattle.words.specs.icfl.BorderLength.{prefix-length}
-use Rattle.words.specs.scan.Scanned.{Scanned, Stops, scanned-one, scanned-whole, scanned-failing}
+use Rattle.words.specs.scan.Scanned.{Scanned, scanned-one, scanned-whole, scanned-failing}
 use Rattle.words.specs.scan.ScannedBorders.{Table, table-set, scanned-border, Walk, walk-on, walk-stops, walk-ends, ShortestBorder, shortest-border-length}
 use Rattle.scan.specs.declared.Scan.{Scan}
-use Rattle.scan.specs.State.{startState, stepState}
-use Rattle.scan.proofs.StateLaws.{step-length, step-scanned}
+use Rattle.scan.specs.State.{startState, Resumes, GoesOn, Advanced}
+use Rattle.scan.proofs.StateLaws.{rests}
 use Rattle.extension.specs.declared.Extension.{Extension}
-use Rattle.extension.specs.Extension.{extensionOf, Fits, Scanning, Ready}
+use Rattle.extension.specs.Extension.{extensionOf, TestRoom, Scanning, Ready}
 
 -- ---- the scan
 
 pub record Going (w work₀ work : List ℕ) (s : Scan) : Type 0 where
-  pub scanned : Scanned w (s .length) (s .border)
+  pub resumes : Resumes w s
   pub table : Table w work (s .length - 1)
   pub kept : drop (length w) work ≡ drop (length w) work₀
   pub long : length work ≡ length work₀
 
-pub scan-starts : (w work : List ℕ) (s : Scan) → Fits w work → s ≡ startState → Going w work work s
-scan-starts w work s f e = record {
-  scanned = rw e (scanned-one w (f .nonempty));
-  table = rw e (λ k l. absurd (omega arith));
+pub scan-starts : (w work : List ℕ) (s : Scan) → TestRoom w work → s ≡ startState → Going w work work s
+scan-starts w work s f e = rw e (record {
+  resumes = record { short = f .short; scanned = scanned-one w (f .nonempty) };
+  table = λ k l. absurd (omega arith);
   kept = refl;
   long = refl;
-}
+})
 
-pub scan-goes-on : (w work₀ work : List ℕ) (s t : Scan) → Going w work₀ work s → Fits w work₀ → s .length < length w → getD w (s .length) 0 ≤ getD w (s .border) 0
-    → t ≡ stepState s (getD w (s .length) 0) (getD w (s .border) 0) → Going w work₀ (set work (s .length - 1) (s .border)) t
-scan-goes-on w work₀ work s t g f l m e =
-    let last : ℕ = s .length - 1 in
-    let n : t .length ≡ suc (s .length) = step-length s t (getD w (s .length) 0) (getD w (s .border) 0) e in
-    let b : t .length - 1 ≡ suc (s .length - 1) = omega (arith, g .scanned .shorter) in
-    let d : suc (s .length - 1) ≡ s .length = omega (arith, g .scanned .shorter) in
+pub scan-goes-on : {w work₀ work : List ℕ} {s t : Scan} → Going w work₀ work s → TestRoom w work₀ → GoesOn w s → Advanced w s t
+    → Going w work₀ (set work (s .length - 1) (s .border)) t
+scan-goes-on {w} {work₀} {work} {s} {t} g f x a =
+    let scanned = g .resumes .scanned in
+    let b : t .length - 1 ≡ suc (s .length - 1) = omega (arith, scanned .shorter, a .longer) in
+    let d : suc (s .length - 1) ≡ s .length = omega (arith, scanned .shorter) in
     record {
-      scanned = step-scanned w s t (g .scanned) l m e;
-      table = rw b (table-set w work (s .length - 1) (s .border) (g .table) (omega (arith, g .long, f .entries)) (rw d (g .scanned)));
-      kept = drop-set-lt (length w) work (s .length - 1) (s .border) (omega arith) ∙ g .kept;
+      resumes = a .resumes;
+      table = rw b (table-set w work (s .length - 1) (s .border) (g .table) (omega (arith, x .inside, g .long, f .entries)) (rw d scanned));
+      kept = drop-set-lt (length w) work (s .length - 1) (s .border) (omega (arith, x .inside)) ∙ g .kept;
       long = length-set work (s .length - 1) (s .border) ∙ g .long;
     }
 
-pub scan-stops : (w work₀ work : List ℕ) (s : Scan) → Going w work₀ work s → Stops w (s .length) (s .border) → Scanning w work₀ s work
-scan-stops w work₀ work s g h = record { scanned = g .scanned; stops = h; table = g .table; kept = g .kept }
+pub scan-stops : {w work₀ work : List ℕ} {s : Scan} → Going w work₀ work s → ¬ GoesOn w s → Scanning w work₀ s work
+scan-stops g n = record { rests = rests (g .resumes) n; table = g .table; kept = g .kept }
 
 -- ---- the walk
 

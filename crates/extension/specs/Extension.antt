@@ -2,13 +2,15 @@
 use mathlib.Core.Path.{_≡_}
 use mathlib.Core.Bool.{Bool, true, false}
 use mathlib.Core.List.{List, [], _∷_, _++_}
-use Prim.Native.Nat.{ℕ, zero, suc, _-_, _≤_, _<_}
-use lib.ListN.{length, drop, getD, replicate}
+use Prim.Native.Nat.{ℕ, _-_, _≤_, _<_}
+use lib.ListN.{length, drop, getD}
 use Rattle.words.specs.Words.{isInverseLyndon}
 use Rattle.words.specs.Factorizations.{failingLength, prefixLength, borderLength}
-use Rattle.words.specs.scan.Scanned.{Scanned, Stops}
+use Rattle.words.specs.scan.Scanned.{Scanned}
 use Rattle.words.specs.scan.ScannedBorders.{Table}
-use Rattle.checks.specs.Refusals.{firstRefusal, recordRefusal, workRefusal}
+use Rattle.buffers.specs.Buffers.{cleared}
+use Rattle.checks.specs.Lines.{Line, _unless_then_, recordLines, workLine}
+use Rattle.scan.specs.State.{Rests}
 use Rattle.scan.specs.declared.Scan.{Scan}
 use Rattle.extension.specs.declared.Extension.{Extension}
 use Rattle.extension.specs.declared.Extension.the-variants.{InverseLyndon, Failing, Refused}
@@ -22,38 +24,25 @@ unfoldable pub extensionOf : List ℕ → Extension
 extensionOf w = verdictAs (isInverseLyndon w) (failingLength w) (prefixLength w) (borderLength w)
 
 -- the lines of the table that the test tries: 1, 2 and 3
-abbrev pub extensionLines : List ℕ → ℕ → List ℕ
-extensionLines w entries = recordRefusal w ∷ workRefusal entries (length w) ∷ []
+abbrev pub extensionLines : List ℕ → ℕ → List Line
+extensionLines w entries = recordLines w ++ workLine entries (length w) ∷ []
 
--- the refusal's number, or the verdict where it is 0
-abbrev pub extensionAs : ℕ → Extension → Extension
-extensionAs zero found = found
-extensionAs (suc e) found = Refused (suc e)
-
--- "the entries counted in line 3 are zero and later ones unchanged"
-abbrev pub cleared : ℕ → List ℕ → List ℕ
-cleared n work = replicate n 0 ++ drop n work
-
-abbrev pub clearedAs : ℕ → ℕ → List ℕ → List ℕ
-clearedAs zero n work = cleared n work
-clearedAs (suc e) n work = work
-
--- the call's promise: its answer, and the work buffer whole
+-- the call's promise: its answer; and "after an accepted .. test .. the entries counted in line 3 are zero and later ones unchanged", untouched by a refusal
 pub record ExtensionFound (w work : List ℕ) (r : Extension) (work′ : List ℕ) : Type 0 where
-  pub answer : r ≡ extensionAs (firstRefusal (extensionLines w (length work))) (extensionOf w)
-  pub buffer : work′ ≡ clearedAs (firstRefusal (extensionLines w (length work))) (length w) work
+  pub answer : r ≡ extensionOf w unless extensionLines w (length work) then Refused
+  pub buffer : work′ ≡ cleared (length w) work unless extensionLines w (length work) then (λ number. work)
 
 -- ---- inner functions
 
-pub record Fits (w work : List ℕ) : Type 0 where
+-- a word that was accepted, and work entries for it
+pub record TestRoom (w work : List ℕ) : Type 0 where
   pub nonempty : 0 < length w
   pub short : length w ≤ 4096
   pub entries : length w ≤ length work
 
 -- a scan that has stopped, with the longest borders of the prefixes before it
 pub record Scanning (w work : List ℕ) (s : Scan) (work′ : List ℕ) : Type 0 where
-  pub scanned : Scanned w (s .length) (s .border)
-  pub stops : Stops w (s .length) (s .border)
+  pub rests : Rests w s
   pub table : Table w work′ (s .length - 1)
   pub kept : drop (length w) work′ ≡ drop (length w) work
 

@@ -2,10 +2,9 @@
 use checks::Checked;
 use scan::Scan;
 ghost use mathlib.Core.Path.{_≡_};
-ghost use Prim.Native.Nat.{_≤_};
-ghost use lib.ListN.{length};
 ghost use Rattle.words.specs.scan.ScannedBorders.{ShortestBorder};
-ghost use Rattle.extension.specs.Extension.{cleared, ExtensionFound, Fits, Scanning, Ready, Verdict};
+ghost use Rattle.checks.specs.Lines.{tried};
+ghost use Rattle.extension.specs.Extension.{extensionLines, ExtensionFound, TestRoom, Scanning, Ready, Verdict};
 
 /// What the test answers: inverse Lyndon (paper 01: falling); failing, with L, |p| and |r|; or the number of the refusal.
 pub enum Extension {
@@ -18,27 +17,22 @@ pub enum Extension {
     Refused(u8),
 }
 
-/// Scans the word, and leaves in `work` the longest border of each prefix that it has passed.
+// Scans the word, and leaves in `work` the longest border of each prefix that it has passed.
 fn scan_borders(word: &[u8], work: &mut [u16]) -> Scan
-    requires { ⌜ Fits (now word) (now work) ⌝ }
+    requires { ⌜ TestRoom (now word) (now work) ⌝ }
     ensures { λ r. ⌜ Scanning (now (word .entry)) (now (work .entry)) r (now (work .exit)) ⌝ }
 {
     let mut s = Scan::start();
-    while s.length < word.len() {
+    while s.goes_on(word) {
         let at = s.length;
         let border = s.border;
-        let new = word[at];
-        let met = word[border];
-        if met < new {
-            return s;
-        }
+        s = s.advance(word);
         work[at - 1] = border as u16;
-        s = s.step(new, met);
     }
     s
 }
 
-/// The shortest border of the first `at` letters whose next letter is below the letter there; `longest` is their longest border.
+// The shortest border of the first `at` letters whose next letter is below the letter there; `longest` is their longest border.
 fn shortest_border(word: &[u8], table: &[u16], at: usize, longest: usize) -> usize
     requires { ⌜ Ready (now word) (now table) at longest ⌝ }
     ensures { λ r. ⌜ ShortestBorder (now (word .entry)) at r ⌝ }
@@ -57,7 +51,7 @@ fn shortest_border(word: &[u8], table: &[u16], at: usize, longest: usize) -> usi
 
 /// The verdict on a word that was accepted. It uses the first entries of `work`, as many as the word has letters.
 pub fn extension_of(word: &[u8], work: &mut [u16]) -> Extension
-    requires { ⌜ Fits (now word) (now work) ⌝ }
+    requires { ⌜ TestRoom (now word) (now work) ⌝ }
     ensures { λ r. ⌜ Verdict (now (word .entry)) (now (work .entry)) r (now (work .exit)) ⌝ }
 {
     let s = scan_borders(word, work);
@@ -74,31 +68,22 @@ pub fn extension_of(word: &[u8], work: &mut [u16]) -> Extension
     }
 }
 
-/// Sets the first `n` entries to zero.
-pub fn clear(work: &mut [u16], n: usize)
-    requires { ⌜ n ≤ length (now work) ⌝ }
-    ensures { λ r. ⌜ now (work .exit) ≡ cleared n (now (work .entry)) ⌝ }
+// Lines 1, 2 and 3.
+fn admit(word: &[u8], entries: usize) -> Checked
+    ensures { λ r. ⌜ r ≡ tried (extensionLines (now (word .entry)) entries) ⌝ }
 {
-    let mut i: usize = 0;
-    while i < n {
-        work[i] = 0;
-        i += 1;
-    }
+    checks::check_record(word).then(checks::check_work(entries, word.len()))
 }
 
 /// The test. Refusals 1, 2, 3; after a result the first entries of `work`, as many as the word has letters, are zero.
 pub fn find_extension(word: &[u8], work: &mut [u16]) -> Extension
     ensures { λ r. ⌜ ExtensionFound (now (word .entry)) (now (work .entry)) r (now (work .exit)) ⌝ }
 {
-    let checked = checks::check_record(word);
-    let Checked::Passed = checked else {
-        return Extension::Refused(checked.number());
-    };
-    let room = checks::check_work(work.len(), word.len());
-    let Checked::Passed = room else {
-        return Extension::Refused(room.number());
+    let admitted = admit(word, work.len());
+    let Checked::Passed = admitted else {
+        return Extension::Refused(admitted.number());
     };
     let found = extension_of(word, work);
-    clear(work, word.len());
+    buffers::clear(work, word.len());
     found
 }

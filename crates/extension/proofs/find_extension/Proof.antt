@@ -1,20 +1,43 @@
--- The checks, the verdict, then the entries that the scan used are cleared.
+-- Admission, the verdict, then the entries that the scan used are cleared.
 use borrow.Author.Needs.{needs}
-use mathlib.Core.Path.{_≡_}
-use Rattle.checks.specs.Refusals.{recordRefusal}
-use Rattle.checks.proofs.RefusalLaws.{passed, refused, number-is}
+use borrow.Author.Tests.{eqb-false, ltb-false}
+use mathlib.Core.Path.{_≡_, _∙_}
+use mathlib.Core.List.{List}
+use Prim.Native.Nat.{ℕ}
 use native.Mathlib.Omega.{arith}
-use Rattle.extension.proofs.TestCases.{record-refused, work-refused, fits, verdict-found}
-use borrow.Author.Needs.{needs}
+use lib.ListN.{length}
+use Rattle.buffers.specs.Buffers.{cleared}
+use Rattle.buffers.proofs.BufferLaws.{cleared-kept}
+use Rattle.checks.specs.Lines.{tried}
+use Rattle.checks.specs.declared.Checked.the-variants.{Passed}
+use Rattle.checks.proofs.LineLaws.{passed, refused, unmet}
+use Rattle.extension.specs.declared.Extension.{Extension}
+use Rattle.extension.specs.Extension.{extensionLines, ExtensionFound, TestRoom, Verdict}
 use Rattle.extension.proofs.find_extension.Statement.{statement}
 use Rattle.extension.proofs.find_extension.Tie as tie
 
--- past the check of the record
-passed-at : (c : tie.After-enum-told) → recordRefusal (c .before .before .before .before .before .args .word .now) ≡ 0
-passed-at c = passed _ _ (c .before .before .check-record .ensures) (c .before .match .keys1)
+test-room : (w work : List ℕ) → tried (extensionLines w (length work)) ≡ Passed → TestRoom w work
+test-room w work e =
+    let u = unmet (extensionLines w (length work)) e in
+    record {
+      nonempty = omega (arith, eqb-false (length w) 0 (u .0));
+      short = ltb-false 4096 (length w) (u .1 .0);
+      entries = ltb-false (length work) (length w) (u .1 .1 .0);
+    }
 
-check-record-requires : tie.Need-check-record-requires
-check-record-requires c κs = search needs
+verdict-found : {w work work₁ work₂ : List ℕ} {r : Extension} → tried (extensionLines w (length work)) ≡ Passed → Verdict w work r work₁
+    → work₂ ≡ cleared (length w) work₁ → ExtensionFound w work r work₂
+verdict-found {w} {work} {work₁} none v e = record { answer = rw none (v .answer); buffer = rw none (e ∙ cleared-kept (length w) work₁ work (v .kept)) }
+
+passed-at : (c : tie.After-enum-told) → (let start = c .before .before .before .before .before in
+    tried (extensionLines (start .args .word .now) (length (start .args .work .now))) ≡ Passed)
+passed-at c = passed _ (c .before .before .admit .ensures) (c .before .match .keys1)
+
+room-at : (c : tie.After-enum-told) → (let start = c .before .before .before .before .before in TestRoom (start .args .word .now) (start .args .work .now))
+room-at c = test-room _ _ (passed-at c)
+
+admit-requires : tie.Need-admit-requires
+admit-requires c κs = search needs
 
 enum-told : tie.Need-enum-told
 enum-told c = search needs
@@ -27,75 +50,27 @@ number-requires c κs = search needs
 
 returns : tie.Need-returns
 returns c =
-    let call = c .before .before .before .check-record in
-    record-refused _ _ _ (number-is _ _ _ (call .ensures) (c .number .ensures)) (refused _ _ (call .ensures) (c .before .before .match .keys2))
-
-check-work-requires : tie.Need-check-work-requires
-check-work-requires c κs = search needs
-
-enum-told-3 : tie.Need-enum-told-3
-enum-told-3 c = search needs
-
-enum-told-4 : tie.Need-enum-told-4
-enum-told-4 c = search needs
-
-number-requires-2 : tie.Need-number-requires-2
-number-requires-2 c κs = search needs
-
-returns-2 : tie.Need-returns-2
-returns-2 c =
-    let at-check-work = c .before .before .before in
-    let c4 = at-check-work .before in
-    let room = at-check-work .check-work in
-    work-refused _ _ (passed-at c4) _ (number-is _ _ _ (room .ensures) (c .number2 .ensures)) (refused _ _ (room .ensures) (c .before .before .match2 .keys2))
+    let admit = c .before .before .before .admit .ensures in
+    let keys = c .before .before .match .keys2 in
+    record { answer = refused _ _ _ admit keys (c .number .ensures); buffer = refused _ _ _ admit keys (c .number .ensures) }
 
 extension-of-requires : tie.Need-extension-of-requires
-extension-of-requires c κs =
-    let at-check-work = c .before .before .before in
-    let c4 = at-check-work .before in
-    fits _ _ (passed-at c4) (passed _ _ (at-check-work .check-work .ensures) (c .before .before .match2 .keys1))
+extension-of-requires c κs = room-at (c .before)
 
 clear-requires : tie.Need-clear-requires
 clear-requires c κs =
-    let at-extension-of = c .before .before .before in
-    let c6 = at-extension-of .before .before .before in
-    let at-check-work = c6 .before in
-    let c8 = at-check-work .before in
-    let x = c8 .before .before .before .before .before in
-    omega (
-      arith,
-      at-extension-of .extension-of .kept,
-      fits (x .args .word .now) (x .args .work .now) (passed-at c8) (passed _ _ (at-check-work .check-work .ensures)
-          (c6 .match2 .keys1)) .entries,
-    )
+    let at-found = c .before .before .before in
+    omega (arith, at-found .extension-of .kept, room-at (at-found .before .before) .entries)
 
 same-length : tie.Need-same-length
 same-length c = search needs
 
-returns-3 : tie.Need-returns-3
-returns-3 c =
-    let at-extension-of = c .before .before .before .before .before .before in
-    let c9 = at-extension-of .before .before .before in
-    let at-check-work = c9 .before in
-    let c11 = at-check-work .before in
-    let room = passed _ _ (at-check-work .check-work .ensures) (c9 .match2 .keys1) in
-    verdict-found _ _ (passed-at c11) room _ _ _ (at-extension-of .extension-of .ensures) (c .before .before .clear .ensures)
+returns-2 : tie.Need-returns-2
+returns-2 c =
+    let at-found = c .before .before .before .before .before .before in
+    verdict-found (passed-at (at-found .before .before)) (at-found .extension-of .ensures) (c .before .before .clear .ensures)
 
 pub find-extension-spec : {M : Type 1} → statement M
 find-extension-spec =
     tie.close
-    (tie.spec
-    check-record-requires
-    enum-told
-    enum-told-2
-    number-requires
-    returns
-    check-work-requires
-    enum-told-3
-    enum-told-4
-    number-requires-2
-    returns-2
-    extension-of-requires
-    clear-requires
-    same-length
-    returns-3)
+    (tie.spec admit-requires enum-told enum-told-2 number-requires returns extension-of-requires clear-requires same-length returns-2)

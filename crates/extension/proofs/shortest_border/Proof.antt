@@ -72,17 +72,5 @@ returns-2 c = walk-none _ _ _ _ (c .before .before .before .pre) _ (c .before .l
 pub shortest-border-spec : {M : Type 1} → statement M
 shortest-border-spec =
     tie.close
-    (tie.spec
-    Inv-loop
-    μ-loop
-    shared-slice-read-new
-    loop-holds
-    sub-next
-    mul-next
-    shared-slice-read-next
-    cast-next
-    shared-slice-read-if1
-    returns
-    loop-less
-    loop-again
-    returns-2)
+    (tie.spec Inv-loop μ-loop shared-slice-read-new loop-holds sub-next mul-next shared-slice-read-next cast-next shared-slice-read-if1
+    returns loop-less loop-again returns-2)

@@ -1,7 +1,6 @@
 use borrow.Author.Needs.{needs}
 use borrow.Author.Tests.{eq-eqb, ne-eqb}
 use Rattle.scan.specs.State.{stepState}
-use borrow.Author.Needs.{needs}
 use Rattle.scan.proofs.Scan.step.Statement.{statement}
 use Rattle.scan.proofs.Scan.step.Tie as tie
 
