@@ -23,10 +23,11 @@ BEGIN {
     FS = "\t"
     if (tables == "") tables = "/dev/stdout"
     count = split("512 1024 2048 4096", lengths, " ")
-    print "# Times\n\nWritten by `bench/run`; [docs/BENCHMARKS.md](../docs/BENCHMARKS.md) says how they are taken. Nanoseconds of a call," > tables
-    print "verified / peer = ratio, marked where it is above its bar. Each number is the least of twelve medians, three for each of" > tables
-    print "four placements of the code in memory; a median is of 25 batches, verified and peer in alternation. Growth: of the verified" > tables
-    print "call's time, from each length to the next." > tables
+    print "# Times\n" > tables
+    print "Written by `bench/run`; [docs/BENCHMARKS.md](../docs/BENCHMARKS.md) says how they are taken. Nanoseconds of a call," > tables
+    print "verified / peer = ratio, marked where it is above its bar. Each number is the least of twelve medians, three for each" > tables
+    print "of four placements of the code in memory; a median is of 25 batches, verified and peer in alternation. Growth: of the" > tables
+    print "verified call's time, from each length to the next." > tables
 }
 {
     key = $1 FS $2 FS $3
