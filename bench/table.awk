@@ -1,16 +1,33 @@
-# Prints the tables from the lines of all placements: call, record, length, nanoseconds of the verified call and of the peer's.
+# Prints, from the lines of all placements (call, record, length, nanoseconds of the verified call and of the peer's), the times of each
+# call to the file `tables`, and to standard output the ratios beside their bars. A ratio above its bar is marked; the exit status is then 1.
 function number(ns,    digits, text) {
     if (ns < 100) return sprintf("%.1f", ns)
     digits = sprintf("%.0f", ns)
     for (text = ""; length(digits) > 3; digits = substr(digits, 1, length(digits) - 3)) text = "," substr(digits, length(digits) - 2) text
     return digits text
 }
+# The row of the ratios that a record counts in. A comparison's time is its entry where the words differ within 64 bytes.
+function row_of(call, record) {
+    if (call !~ /metsroeb_compare/) return call
+    return call (record ~ /^(random|falling ramp|rising plateaus)/ ? ": ends at once" : ": long")
+}
+# Reader and summary are called once for a page.
+function bar_of(row) {
+    return row ~ /metsroeb_(factor|summarize)|ends at once/ ? 1.25 : 1.00
+}
+function marked(ratio, bar,    shown) {
+    shown = sprintf("%.2f", ratio)
+    return shown + 0 > bar ? "**" shown "**" : shown
+}
 BEGIN {
     FS = "\t"
+    if (tables == "") tables = "/dev/stdout"
     count = split("512 1024 2048 4096", lengths, " ")
-    print "Nanoseconds of a call, verified / peer = ratio. Each number is the least of twelve medians, three for each of four placements of the"
-    print "code in memory; a median is of 25 batches, verified and peer in alternation. Growth: of the verified call's time, from each length to the next."
-    print "Buffers are not cleared before a call; each call finds them as the call before it left them."
+    print "# Times\n" > tables
+    print "Written by `bench/run`; [docs/BENCHMARKS.md](../docs/BENCHMARKS.md) says how they are taken. Nanoseconds of a call," > tables
+    print "verified / peer = ratio, marked where it is above its bar. Each number is the least of twelve medians, three for each" > tables
+    print "of four placements of the code in memory; a median is of 25 batches, verified and peer in alternation. Growth: of the" > tables
+    print "verified call's time, from each length to the next." > tables
 }
 {
     key = $1 FS $2 FS $3
@@ -22,27 +39,33 @@ BEGIN {
 END {
     for (c = 1; c <= call_count; c++) {
         call = calls[c]
-        printf "\n### %s\n\n| record | 512 | 1,024 | 2,048 | 4,096 | growth |\n|---|---|---|---|---|---|\n", call
+        printf "\n## %s\n\n| record | 512 | 1,024 | 2,048 | 4,096 | growth |\n|---|---|---|---|---|---|\n", call > tables
         for (r = 1; r <= records[call]; r++) {
+            row = row_of(call, record[call, r])
+            if (!(row in ratios)) rows[++row_count] = row
             line = "| " record[call, r] " |"
             growth = ""
             for (k = 1; k <= count; k++) {
                 key = call FS record[call, r] FS lengths[k]
                 ratio = verified[key] / peer[key]
-                shown = sprintf("%.2f", ratio)
-                line = line " " number(verified[key]) " / " number(peer[key]) " = " (shown + 0 > 1 ? "**" shown "**" : shown) " |"
+                line = line " " number(verified[key]) " / " number(peer[key]) " = " marked(ratio, bar_of(row)) " |"
                 if (k > 1) growth = growth " " sprintf("%.1f", verified[key] / before)
                 before = verified[key]
-                if (!(call in least) || ratio < least[call]) least[call] = ratio
-                if (ratio > most[call]) most[call] = ratio
-                sum[call] += log(ratio)
+                if (!(row in ratios) || ratio < least[row]) least[row] = ratio
+                if (ratio > most[row]) most[row] = ratio
+                sum[row] += log(ratio)
+                ratios[row]++
             }
-            print line growth " |"
+            print line growth " |" > tables
         }
     }
-    print "\n### Ratios\n\n| call | least | geometric mean | greatest |\n|---|---|---|---|"
-    for (c = 1; c <= call_count; c++) {
-        call = calls[c]
-        printf "| %s | %.2f | %.2f | %.2f |\n", call, least[call], exp(sum[call] / (count * records[call])), most[call]
+    if (tables == "/dev/stdout") print "\n## Ratios\n"
+    print "| call | least | geometric mean | greatest | bar |\n|---|---|---|---|---|"
+    for (r = 1; r <= row_count; r++) {
+        row = rows[r]
+        greatest = marked(most[row], bar_of(row))
+        printf "| %s | %.2f | %.2f | %s | %.2f |\n", row, least[row], exp(sum[row] / ratios[row]), greatest, bar_of(row)
+        if (greatest ~ /\*/) above = above "\nabove its bar: " row ": " sprintf("%.2f", most[row])
     }
+    if (above != "") { print above > "/dev/stderr"; exit 1 }
 }

@@ -59,7 +59,7 @@ const CALLS: [(&str, Call); 8] = [
         let mut count = 0;
         black_box((calls.cfl_in(&case.record, &mut lent.result, &mut count), count));
     }),
-    ("`metsroeb_cfl_in`, as many result entries as the answer has: counted first if fewer than n", |calls, case, lent| {
+    ("`metsroeb_cfl_in`, just enough result entries: counted first if fewer than n", |calls, case, lent| {
         let mut count = 0;
         let result = &mut lent.result[..case.strict_ends.len()];
         black_box((calls.cfl_in(&case.record, result, &mut count), count));
