@@ -1,8 +1,8 @@
 -- The lines of the table, whatever they are: what is known in the two branches of `let Checked::Passed = k else` (passed, refused), lines that are
--- tried in two parts (both, refused-first, passed-first), what it tells that all pass (unmet, all-pass), which numbers can come (first-listed), and
--- calls that fill a result buffer (filled-refused, filled-done).
+-- tried in two parts (both, refused-first, passed-first), what it tells that all pass (unmet, all-pass), which numbers can come (first-listed, zero-passes, unless-but),
+-- and calls that fill a result buffer (filled-refused, filled-done).
 use mathlib.Core.Path.{_≡_, refl, ap, sym, _∙_}
-use mathlib.Core.Bool.{Bool, true, false, _||_, _&&_, true≢false}
+use mathlib.Core.Bool.{Bool, true, false, not, _||_, _&&_, true≢false}
 use mathlib.Core.Logic.{_⊎_, inl, inr}
 use mathlib.Core.List.{List, [], _∷_, _++_, List·Memᴰ, List·Memᴰ·head, List·Memᴰ·tail}
 use Prim.Native.Nat.{ℕ}
@@ -10,7 +10,7 @@ use native.Mathlib.Omega.{arith}
 use lib.Dec.{eqb, ltb}
 use types.Run.{OneOf}
 use denote.Enum.Declared.{tagOf}
-use borrow.Author.Tests.{eqb-true, ltb-true}
+use borrow.Author.Tests.{eqb-true, ltb-true, not-true, eq-eqb}
 use Rattle.buffers.specs.Buffers.{written}
 use Rattle.checks.proofs.Checked.{the-type}
 use Rattle.checks.specs.declared.Checked.{Checked}
@@ -146,6 +146,18 @@ zero-passes lines e z = go (number-tested (ltb 0) lines e)
     go : (tried lines ≡ Passed) ⊎ (ltb 0 (numberOf (tried lines)) ≡ true) → tried lines ≡ Passed
     go (inl p) = p
     go (inr h) = absurd (omega (arith, z, ltb-true 0 (numberOf (tried lines)) h))
+
+-- a last line whose refusal stands for the result too, where no line before it has its number
+pub unless-but : {A : Type 0} (result other : A) (lines : List Line) (number : ℕ) (met : Bool) → everyNumber (λ m. not (eqb m number)) lines ≡ true
+    → (result unless lines ++ number when met ∷ [] then (λ m. elim (eqb m number) [ true ↦ result | false ↦ other ])) ≡ (result unless lines then (λ m. other))
+unfolding tried
+unless-but result other [] number true e = ap (λ (t : Bool). elim t [ true ↦ result | false ↦ other ]) (eq-eqb number number refl)
+unless-but result other [] number false e = refl
+unless-but result other (m when true ∷ lines) number met e =
+    let h = both-true (not (eqb m number)) (everyNumber (λ k. not (eqb k number)) lines) e .0 in
+    ap (λ (t : Bool). elim t [ true ↦ result | false ↦ other ]) (not-true (eqb m number) h)
+unless-but result other (m when false ∷ lines) number met e =
+    unless-but result other lines number met (both-true (not (eqb m number)) (everyNumber (λ k. not (eqb k number)) lines) e .1)
 
 -- ---- calls that fill a result buffer
 

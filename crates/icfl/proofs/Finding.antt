@@ -6,7 +6,9 @@ use mathlib.Core.List.{List, [], _∷_, _++_, append-assoc, append-nil}
 use Prim.Native.Nat.{ℕ, suc, _+_, _-_, _*_, _≤_, _<_}
 use native.Mathlib.Omega.{arith}
 use lib.ListN.{length, take, drop, set, length-set, length-drop}
-use lib.Seq.{take-all, take-suc-set, drop-set-add, drop-set-lt, drop-drop}
+use lib.Seq.{take-suc-set, drop-set-add, drop-set-lt, drop-drop}
+use Rattle.buffers.proofs.BufferLaws.{kept-past}
+use Rattle.buffers.proofs.PartLaws.{rest, rest-is}
 use types.Run.{OneOf}
 use denote.Enum.Declared.{tagOf}
 use Rattle.words.specs.Words.{InverseLyndon, isInverseLyndon}
@@ -17,9 +19,9 @@ use Rattle.words.specs.icfl.BorderLength.{step-is}
 use Rattle.words.specs.icfl.IcflFactors.{prefix-positive}
 use Rattle.words.specs.scan.Breaks.{Breaks, whole, break}
 use Rattle.extension.specs.declared.Extension.{Extension}
-use Rattle.extension.specs.Extension.{verdictAs, extensionOf, Fits, Verdict}
+use Rattle.extension.specs.Extension.{verdictAs, extensionOf, TestRoom, Verdict}
 use Rattle.extension.proofs.Extension.{the-type}
-use Rattle.icfl.specs.Icfl.{Roomy, BreaksFound}
+use Rattle.icfl.specs.Icfl.{CutRoom, BreaksFound}
 
 -- ---- what the verdict tells
 
@@ -68,13 +70,6 @@ stack-push work n i e r l =
 
 -- ---- the loop
 
--- the part of the word that the code lends
-abbrev rest : List ℕ → ℕ → List ℕ
-rest w from = take (length w - from) (drop from w)
-
-rest-is : (w : List ℕ) (from : ℕ) → rest w from ≡ drop from w
-rest-is w from = take-all (length w - from) (drop from w) (rw (length-drop from w) (omega arith))
-
 pub record Finding (w work₀ work : List ℕ) (n from count : ℕ) : Type 0 where
   pub size : n ≡ length w
   pub few : count ≤ from
@@ -83,26 +78,23 @@ pub record Finding (w work₀ work : List ℕ) (n from count : ℕ) : Type 0 whe
   pub kept : drop (3 * length w) work ≡ drop (3 * length w) work₀
   pub long : length work ≡ length work₀
 
-pub find-starts : (w work : List ℕ) → Roomy w work → Finding w work work (length w) 0 0
+pub find-starts : (w work : List ℕ) → CutRoom w work → Finding w work work (length w) 0 0
 find-starts w work r = record { size = refl; few = omega arith; inside = r .nonempty; breaks = λ bs b. b; kept = refl; long = refl }
 
-pub find-fits : (w work₀ work : List ℕ) (n from count : ℕ) → Roomy w work₀ → Finding w work₀ work n from count → Fits (rest w from) work
-find-fits w work₀ work n from count r g = rw (rest-is w from) (record {
+pub find-fits : (w work₀ work : List ℕ) (n from count : ℕ) → CutRoom w work₀ → Finding w work₀ work n from count → TestRoom (rest from w) work
+find-fits w work₀ work n from count r g = rw (rest-is from w) (record {
   nonempty = rw length-drop (omega (arith, g .inside));
   short = rw length-drop (omega (arith, r .short));
   entries = rw length-drop (omega (arith, r .entries, g .long));
 })
 
-module _ (w work₀ work work₁ : List ℕ) (n from count : ℕ) (g : Finding w work₀ work n from count) (a : Extension) (v : Verdict (rest w from) work a work₁) where
+module _ (w work₀ work work₁ : List ℕ) (n from count : ℕ) (g : Finding w work₀ work n from count) (a : Extension) (v : Verdict (rest from w) work a work₁) where
   verdict : Verdict (drop from w) work a work₁
-  verdict = rw (rest-is w from) at v
+  verdict = rw (rest-is from w) at v
 
   -- the test uses the entries of the rest's letters only
   kept-from : (m : ℕ) → length w ≤ m → drop m work₁ ≡ drop m work
-  kept-from m l =
-      let k : length (drop from w) + (m - length (drop from w)) ≡ m = rw length-drop (omega arith) in
-      rw (← k, ← drop-drop (m - length (drop from w)) (length (drop from w)) work₁, ← drop-drop (m - length (drop from w)) (length (drop from w)) work)
-      (ap (drop (m - length (drop from w))) (verdict .kept))
+  kept-from m l = kept-past (length (drop from w)) m work₁ work (rw length-drop (omega arith)) (verdict .kept)
 
   pub find-ends : OneOf (0 ∷ 2 ∷ []) (tagOf the-type a) → BreaksFound w work₀ count work₁
   find-ends h = record {
@@ -117,7 +109,7 @@ module _ (w work₀ work work₁ : List ℕ) (n from count : ℕ) (g : Finding w
     pub found : Fails (drop from w) p r
     found = verdict-fails (drop from w) l p r (rw length-drop (omega (arith, g .inside))) (sym z ∙ verdict .answer)
 
-    pub step-inside : from + p + r < length w
+    step-inside : from + p + r < length w
     step-inside = omega (arith, found .inside, length-drop from w)
 
     pub find-on : 3 * length w ≤ length work₁ → length work₁ ≡ length work

@@ -6,23 +6,12 @@ use native.Mathlib.Nat.{zero-add}
 use native.Mathlib.Omega.{arith}
 use lib.ListN.{length, take, drop, getD, set, length-append, length-drop, length-set, drop-of-length-le}
 use lib.Seq.{take-all, take-set-le, drop-set-add, drop-set-lt, drop-drop, take-at, drop-append-add, getD-set-same, length-take-le}
+use Rattle.buffers.proofs.PartLaws.{rest, rest-is, rest-back}
 use Rattle.words.specs.Factorizations.{icflEnds}
 use Rattle.words.specs.scan.Breaks.{foldEnds, breaks-ends}
-use Rattle.icfl.specs.Icfl.{Roomy, BreaksFound, Stacked, Joined, EndsFound}
+use Rattle.icfl.specs.Icfl.{CutRoom, BreaksFound, Stacked, Joined, EndsFound}
 
--- a part from entry a on, as the code lends it, and the whole after the loan
-abbrev partFrom : ℕ → List ℕ → List ℕ
-partFrom a xs = take (length xs - a) (drop a xs)
-
-part-is : (a : ℕ) (xs : List ℕ) → partFrom a xs ≡ drop a xs
-part-is a xs = take-all (length xs - a) (drop a xs) (rw (length-drop a xs) (omega arith))
-
-part-back : (a : ℕ) (xs ys : List ℕ) → take a xs ++ (ys ++ drop (length xs - a) (drop a xs)) ≡ take a xs ++ ys
-part-back a xs ys =
-    ap (λ (t : List ℕ). take a xs ++ t)
-    (ap (λ (t : List ℕ). ys ++ t) (drop-of-length-le (drop a xs) {i = length xs - a} (rw (length-drop a xs) (omega arith))) ∙ append-nil ys)
-
-module _ (w work work₁ : List ℕ) (count : ℕ) (r : Roomy w work) (b : BreaksFound w work count work₁) (long : length work₁ ≡ length work) where
+module _ (w work work₁ : List ℕ) (count : ℕ) (r : CutRoom w work) (b : BreaksFound w work count work₁) (long : length work₁ ≡ length work) where
   abbrev pub n : ℕ
   n = length w
 
@@ -39,8 +28,8 @@ module _ (w work work₁ : List ℕ) (count : ℕ) (r : Roomy w work) (b : Break
   stack-long : length stack ≡ length work - n
   stack-long = rw (length-drop, length-set, long)
 
-  pub stacked : Stacked (partFrom n work₂) count
-  stacked = rw (part-is n work₂) (record { entries = rw stack-long (omega (arith, r .entries, b .few)); short = omega (arith, r .short, b .few) })
+  pub stacked : Stacked (rest n work₂) count
+  stacked = rw (rest-is n work₂) (record { entries = rw stack-long (omega (arith, r .entries, b .few)); short = omega (arith, r .short, b .few) })
 
   same-breaks : take (2 * count) stack ≡ take (2 * count) (drop n work₁)
   same-breaks = rw stack-is (take-set-le (2 * count) (drop n work₁) (2 * count) n (omega arith))
@@ -53,18 +42,18 @@ module _ (w work work₁ : List ℕ) (count : ℕ) (r : Roomy w work) (b : Break
   unfolding icflEnds
   all-ends = rw (same-breaks, end-entry) (sym (rw (zero-add n) at (breaks-ends (b .breaks))))
 
-  module _ (top : ℕ) (stack′ : List ℕ) (j : Joined (partFrom n work₂) count top stack′) (same : length stack′ ≡ length (partFrom n work₂)) where
+  module _ (top : ℕ) (stack′ : List ℕ) (j : Joined (rest n work₂) count top stack′) (same : length stack′ ≡ length (rest n work₂)) where
     abbrev pub work₃ : List ℕ
     work₃ = take n work₂ ++ (stack′ ++ drop (length work₂ - n) (drop n work₂))
 
     joined : Joined stack count top stack′
-    joined = rw (part-is n work₂) at j
+    joined = rw (rest-is n work₂) at j
 
     ends-after : drop top stack′ ≡ icflEnds w ++ drop (2 * count + 1) stack
     ends-after = joined .ends ∙ ap (λ (t : List ℕ). t ++ drop (2 * count + 1) stack) all-ends
 
     size : length stack′ ≡ length work - n
-    size = same ∙ (ap length (part-is n work₂) ∙ stack-long)
+    size = same ∙ (ap length (rest-is n work₂) ∙ stack-long)
 
     number : 2 * count + 1 - top ≡ length (icflEnds w)
     number = omega (arith, joined .upto, r .entries, b .few, size, long, length-set work₁ (n + 2 * count) n, simp (length-append, length-drop) at (ap length ends-after))
@@ -73,7 +62,7 @@ module _ (w work work₁ : List ℕ) (count : ℕ) (r : Roomy w work) (b : Break
     front = length-take-le n work₂ (rw (length-set, long) (omega (arith, r .entries)))
 
     after : (m : ℕ) → drop (n + m) work₃ ≡ drop m stack′
-    after m = rw (part-back n work₂ stack′) (subst (λ (k : ℕ). drop (k + m) (take n work₂ ++ stack′) ≡ drop m stack′) front (drop-append-add (take n work₂) stack′ m))
+    after m = rw (rest-back n work₂ stack′) (subst (λ (k : ℕ). drop (k + m) (take n work₂ ++ stack′) ≡ drop m stack′) front (drop-append-add (take n work₂) stack′ m))
 
     -- past the ends the buffer is as the forward pass left it
     tail-kept : drop (2 * n) stack′ ≡ drop (2 * n) stack
@@ -87,7 +76,7 @@ module _ (w work work₁ : List ℕ) (count : ℕ) (r : Roomy w work) (b : Break
         ∙ (drop-append-add (icflEnds w) (drop (2 * count + 1) stack) k ∙ (drop-drop k (2 * count + 1) stack ∙ ap (λ (m : ℕ). drop m stack) y))))
 
     pub long-kept : length work₃ ≡ length work
-    long-kept = rw (part-back n work₂ stack′, length-append, front, size) (omega (arith, r .entries))
+    long-kept = rw (rest-back n work₂ stack′, length-append, front, size) (omega (arith, r .entries))
 
     pub ends-found : EndsFound w work (record { first = n + top; count = 2 * count + 1 - top }) work₃
     ends-found = record {

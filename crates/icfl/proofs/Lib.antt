@@ -1,5 +1,4 @@
-pub mod Joining
 pub mod Finding
-pub mod Copying
+pub mod Joining
 pub mod Gathering
 pub mod IcflCases

@@ -1,38 +1,38 @@
 -- DEFINITIONS. What the piece cut answers, writes and leaves in the work buffer (IcflDone), and what its inner functions ask and promise.
 use mathlib.Core.Path.{_≡_}
-use mathlib.Core.Bool.{Bool, true, false, _||_}
+use mathlib.Core.Bool.{true, false}
 use mathlib.Core.List.{List, [], _∷_, _++_}
 use Prim.Native.Nat.{ℕ, _+_, _*_, _≤_, _<_}
 use lib.ListN.{length, take, drop, getD}
 use lib.Dec.{eqb}
 use Rattle.words.specs.Factorizations.{icflEnds}
 use Rattle.words.specs.scan.Breaks.{Breaks, foldEnds}
-use Rattle.checks.specs.Refusals.{firstRefusal, recordRefusal, workRefusal, resultRefusal}
+use Rattle.buffers.specs.Buffers.{cleared}
+use Rattle.checks.specs.Lines.{Line, _unless_then_, recordLines, workLine, resultLine}
 use Rattle.checks.specs.Answers.{Filled}
 use Rattle.checks.specs.declared.Counted.{Counted}
-use Rattle.extension.specs.Extension.{cleared}
 use Rattle.icfl.specs.declared.Ends.{Ends}
 
--- the lines of the table that the piece cut tries: 1, 2, 3 and 4
-abbrev pub icflLines : List ℕ → ℕ → ℕ → List ℕ
-icflLines w work entries = recordRefusal w ∷ workRefusal work (3 * length w) ∷ resultRefusal entries (length (icflEnds w)) ∷ []
+-- the lines of the table that the piece cut tries: 1, 2 and 3 before its work, then 4
+abbrev pub icflAdmission : List ℕ → ℕ → List Line
+icflAdmission w work = recordLines w ++ workLine work (3 * length w) ∷ []
 
--- "After an accepted cut or test, and after a cut refused by 4, the entries counted in line 3 are zero and later ones unchanged."
-abbrev pub clearedIf : Bool → ℕ → List ℕ → List ℕ
-clearedIf true n work = cleared n work
-clearedIf false n work = work
+abbrev pub icflLines : List ℕ → ℕ → ℕ → List Line
+icflLines w work entries = icflAdmission w work ++ resultLine entries (length (icflEnds w)) ∷ []
 
-abbrev pub workAfter : ℕ → ℕ → List ℕ → List ℕ
-workAfter e n work = clearedIf (eqb e 0 || eqb e 4) n work
+-- "Every refusal but 4 leaves the work buffer untouched too. .. after a cut refused by 4, the entries counted in line 3 are zero and later ones unchanged."
+abbrev pub workAfter : ℕ → List ℕ → ℕ → List ℕ
+workAfter n work number = elim (eqb number 4) [ true ↦ cleared n work | false ↦ work ]
 
--- the call's promise: its answer with the result buffer, and the work buffer whole
+-- the call's promise: its answer with the result buffer, and the work buffer whole, cleared "after an accepted cut"
 pub record IcflDone (w work buffer : List ℕ) (r : Counted) (work′ buffer′ : List ℕ) : Type 0 where
   pub filled : Filled (icflLines w (length work) (length buffer)) (length (icflEnds w)) (icflEnds w) buffer r buffer′
-  pub worked : work′ ≡ workAfter (firstRefusal (icflLines w (length work) (length buffer))) (3 * length w) work
+  pub worked : work′ ≡ cleared (3 * length w) work unless icflLines w (length work) (length buffer) then workAfter (3 * length w) work
 
 -- ---- inner functions
 
-pub record Roomy (w work : List ℕ) : Type 0 where
+-- a word that was accepted, and work entries for it
+pub record CutRoom (w work : List ℕ) : Type 0 where
   pub nonempty : 0 < length w
   pub short : length w ≤ 4096
   pub entries : 3 * length w ≤ length work

@@ -3,10 +3,8 @@ use checks::Checked;
 use checks::Counted;
 use extension::Extension;
 ghost use mathlib.Core.Path.{_≡_};
-ghost use mathlib.Core.List.{_++_};
-ghost use Prim.Native.Nat.{_≤_};
-ghost use lib.ListN.{length, drop};
-ghost use Rattle.icfl.specs.Icfl.{IcflDone, Roomy, BreaksFound, Stacked, Joined, EndsFound};
+ghost use Rattle.checks.specs.Lines.{tried};
+ghost use Rattle.icfl.specs.Icfl.{icflAdmission, IcflDone, CutRoom, BreaksFound, Stacked, Joined, EndsFound};
 
 /// Where the ends of the factors stand in the work buffer.
 pub struct Ends {
@@ -14,9 +12,9 @@ pub struct Ends {
     pub count: usize,
 }
 
-/// The breaks, from left to right: for each the place where p ends and |r|, from entry `word.len()` of `work` on. Answers their number.
+// The breaks, from left to right: for each the place where p ends and |r|, from entry `word.len()` of `work` on. Answers their number.
 fn find_breaks(word: &[u8], work: &mut [u16]) -> usize
-    requires { ⌜ Roomy (now word) (now work) ⌝ }
+    requires { ⌜ CutRoom (now word) (now work) ⌝ }
     ensures { λ r. ⌜ BreaksFound (now (word .entry)) (now (work .entry)) r (now (work .exit)) ⌝ }
 {
     let n = word.len();
@@ -40,8 +38,8 @@ fn find_breaks(word: &[u8], work: &mut [u16]) -> usize
     count
 }
 
-/// From the last break to the first: a first factor that is no longer than |r| is joined, otherwise the end of p is kept. The word's end stands after
-/// the breaks; the ends gather in front of it, and the answer is the entry of the first one.
+// From the last break to the first: a first factor that is no longer than |r| is joined, otherwise the end of p is kept. The word's end stands after
+// the breaks; the ends gather in front of it, and the answer is the entry of the first one.
 fn join_breaks(stack: &mut [u16], count: usize) -> usize
     requires { ⌜ Stacked (now stack) count ⌝ }
     ensures { λ r. ⌜ Joined (now (stack .entry)) count r (now (stack .exit)) ⌝ }
@@ -63,7 +61,7 @@ fn join_breaks(stack: &mut [u16], count: usize) -> usize
 
 /// The ends of the factors of a word that was accepted, left in the work buffer.
 pub fn find_ends(word: &[u8], work: &mut [u16]) -> Ends
-    requires { ⌜ Roomy (now word) (now work) ⌝ }
+    requires { ⌜ CutRoom (now word) (now work) ⌝ }
     ensures { λ r. ⌜ EndsFound (now (word .entry)) (now (work .entry)) r (now (work .exit)) ⌝ }
 {
     let n = word.len();
@@ -76,16 +74,15 @@ pub fn find_ends(word: &[u8], work: &mut [u16]) -> Ends
     }
 }
 
-/// Writes all entries of `source` to the front of `target`.
-pub fn copy(source: &[u16], target: &mut [u16])
-    requires { ⌜ length (now source) ≤ length (now target) ⌝ }
-    ensures { λ r. ⌜ now (target .exit) ≡ now (source .entry) ++ drop (length (now (source .entry))) (now (target .entry)) ⌝ }
+// Lines 1, 2 and 3. Three entries for each letter are counted only for a record that is not too long.
+fn admit(word: &[u8], entries: usize) -> Checked
+    ensures { λ r. ⌜ r ≡ tried (icflAdmission (now (word .entry)) entries) ⌝ }
 {
-    let mut i: usize = 0;
-    while i < source.len() {
-        target[i] = source[i];
-        i += 1;
-    }
+    let recorded = checks::check_record(word);
+    let Checked::Passed = recorded else {
+        return recorded;
+    };
+    checks::check_work(entries, 3 * word.len())
 }
 
 /// The piece cut: writes the ends of the factors from entry 0 on, and answers their number. Refusals 1, 2, 3, 4. After a result and after 4 the
@@ -93,24 +90,20 @@ pub fn copy(source: &[u16], target: &mut [u16])
 pub fn icfl(word: &[u8], work: &mut [u16], ends: &mut [u16]) -> Counted
     ensures { λ r. ⌜ IcflDone (now (word .entry)) (now (work .entry)) (now (ends .entry)) r (now (work .exit)) (now (ends .exit)) ⌝ }
 {
-    let checked = checks::check_record(word);
-    let Checked::Passed = checked else {
-        return Counted::Refused(checked.number());
+    let admitted = admit(word, work.len());
+    let Checked::Passed = admitted else {
+        return Counted::Refused(admitted.number());
     };
     let used = 3 * word.len();
-    let space = checks::check_work(work.len(), used);
-    let Checked::Passed = space else {
-        return Counted::Refused(space.number());
-    };
     let found = find_ends(word, work);
     let first = found.first;
     let count = found.count;
     let room = checks::check_result(ends.len(), count);
     let Checked::Passed = room else {
-        extension::clear(work, used);
+        buffers::clear(work, used);
         return Counted::Refused(room.number());
     };
-    copy(&work[first..first + count], ends);
-    extension::clear(work, used);
+    buffers::copy(&work[first..first + count], ends);
+    buffers::clear(work, used);
     Counted::Count(count)
 }

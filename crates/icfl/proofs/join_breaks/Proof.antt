@@ -125,32 +125,6 @@ returns c = join-ends _ _ _ _ _ (c .before .loop .inv) (c .loop-test .left)
 pub join-breaks-spec : {M : Type 1} → statement M
 join-breaks-spec =
     tie.close
-    (tie.spec
-    Inv-loop
-    μ-loop
-    mul-top
-    loop-holds
-    sub-k
-    mul-end
-    mul-end-2
-    slice-read-end
-    cast-end
-    mul-border
-    add-border
-    mul-border-2
-    slice-read-border
-    cast-border
-    mul-first
-    slice-read-first
-    cast-first
-    add-if1
-    sub-top
-    cast-stack
-    mul-stack
-    slice-write-stack
-    loop-less
-    loop-again
-    loop-less-2
-    loop-again-2
-    same-length
-    returns)
+    (tie.spec Inv-loop μ-loop mul-top loop-holds sub-k mul-end mul-end-2 slice-read-end cast-end mul-border add-border mul-border-2
+    slice-read-border cast-border mul-first slice-read-first cast-first add-if1 sub-top cast-stack mul-stack slice-write-stack loop-less
+    loop-again loop-less-2 loop-again-2 same-length returns)
