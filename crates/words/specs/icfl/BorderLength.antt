@@ -4,16 +4,15 @@ use mathlib.Core.Path.{_≡_, refl, sym, subst}
 use mathlib.Core.List.{List, [], _∷_, _++_}
 use Prim.Native.Nat.{ℕ, suc, _+_, _-_, _*_, _≤_, _<_}
 use native.Mathlib.Omega.{arith}
-use lib.ListN.{length, take, drop, getD}
+use lib.ListN.{length, take, drop, getD, length-drop}
 use lib.Seq.{take-suc, length-take-le, getD-take}
-use lib.ListN.{length-drop}
 use Rattle.words.specs.Words.{_≪_, here, _⊑_, InverseLyndon}
 use Rattle.words.specs.Factorizations.{isBorder, failingLength, borderLength, prefixLength}
 use Rattle.words.specs.orders.PrefixLaws.{⊑-refl, ⊑-trans, ⊑-both, ⊑-whole, take-⊑, take-⊑-take}
 use Rattle.words.specs.orders.MismatchLaws.{≪-extend, ≪-under, ≪-last}
 use Rattle.words.specs.orders.LexLaws.{≤ₗ-not-≪}
 use Rattle.words.specs.orders.Decisions.{Decides, decides-and, leb-test, least-unique}
-use Rattle.words.specs.lyndon.WordTests.{same-test}
+use Rattle.words.specs.orders.OrderTests.{same-test}
 use Rattle.words.specs.icfl.Extension.{Extension, extension-below, extension-prefix}
 use Rattle.words.specs.icfl.Failing.{Failing, failing-is, Shortest, shortest-is, suffix-parts, extension-at}
 

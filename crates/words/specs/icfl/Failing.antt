@@ -17,7 +17,8 @@ use Rattle.words.specs.orders.PrefixLaws.{take-⊑}
 use Rattle.words.specs.orders.LexLaws.{_≤ₗ_, pre, ≤ₗ-refl, ≤ₗ-≪-trans, <ₗ-≤ₗ, <ₗ-total}
 use Rattle.words.specs.orders.MismatchLaws.{≪-asym}
 use Rattle.words.specs.orders.Decisions.{Decides, holds, fails, decides-not, Least, found, never, least-is, least-unique}
-use Rattle.words.specs.lyndon.WordTests.{lex-less-test, inverse-lyndon, inverse-lyndon-test}
+use Rattle.words.specs.orders.OrderTests.{lex-less-test}
+use Rattle.words.specs.lyndon.WordTests.{inverse-lyndon, inverse-lyndon-test}
 use Rattle.words.specs.icfl.Extension.{Extension, prefix-inverse-lyndon}
 
 -- ---- the shortest failing prefix

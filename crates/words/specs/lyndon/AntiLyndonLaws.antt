@@ -11,11 +11,11 @@ use lib.ListN.{length, take, drop, length-append, drop-of-length-le}
 use Rattle.words.specs.Words.{_≪_, done, _≺_, proper, prefix, mismatch, InverseLyndon, AntiLyndon}
 use Rattle.words.specs.Factorizations.{longestWithin, longestAntiLyndon}
 use Rattle.words.specs.orders.PrefixLaws.{⊑-refl, ⊑-append, ⊑-split, ⊑-whole}
-use Rattle.words.specs.orders.MismatchLaws.{≪-trans, ≪-append, ≪-extend, ≪-under, Compared, less, greater, within, beyond, compared, Tri, lt, eq, gt, tri}
+use Rattle.words.specs.orders.MismatchLaws.{≪-trans, ≪-append, ≪-extend, ≪-under, Compared, less, greater, within, beyond, compared}
 use Rattle.words.specs.orders.LexLaws.{_≤ₗ_, lost, ≤ₗ-refl}
 use Rattle.words.specs.orders.InverseLaws.{_≼_, won, pre, ≼-refl, ≺-≼}
 use Rattle.words.specs.Statements.{EqualOrAfter}
-use Rattle.words.specs.orders.Decisions.{Decides, holds, fails}
+use Rattle.words.specs.orders.Decisions.{Decides, holds, fails, neither-less}
 use Rattle.words.specs.lyndon.WordTests.{inverse-lyndon, suffix-loses, anti-lyndon, anti-lyndon-test}
 use Rattle.words.specs.lyndon.Suffixes.{Begins, first, second, begins}
 
@@ -108,9 +108,4 @@ pub longest-unique : (w : List ℕ) (n : ℕ) → 0 < n → Longest w (length w)
 longest-unique w n p h = go (longest-is w)
   where
     go : {m : ℕ} → Longest w (length w) m → m ≡ n
-    go {m} v = near (tri m n)
-      where
-        near : Tri m n → m ≡ n
-        near (lt x) = absurd (v .longer n x (h .upto) (h .word p))
-        near (eq x) = x
-        near (gt x) = absurd (h .longer m x (v .upto) (v .word (omega arith)))
+    go {m} v = neither-less (λ x. v .longer n x (h .upto) (h .word p)) (λ x. h .longer m x (v .upto) (v .word (omega arith)))

@@ -7,7 +7,6 @@ use native.Mathlib.Omega.{arith}
 use native.Mathlib.Decide.{decLt}
 use lib.Dec.{leb, eqb, isLe, isEq}
 use Rattle.words.specs.Factorizations.{least}
-use Rattle.words.specs.orders.MismatchLaws.{Tri, tri}
 
 pub data Decides (P : Type 0) : Bool → Type 0 where
   holds : P → Decides P true
@@ -61,6 +60,9 @@ ordered (suc a) (suc b) = rw compare·suc-suc (go (ordered a b))
     go (eq h) = eq (ap suc h)
     go (gt h) = gt (omega arith)
 
+pub neither-less : {a b : ℕ} → ¬ (a < b) → ¬ (b < a) → a ≡ b
+neither-less h k = omega arith
+
 pub leb-test : (a b : ℕ) → Decides (a ≤ b) (leb a b)
 leb-test a b = go (ordered a b)
   where
@@ -106,9 +108,4 @@ least-unique P test d k i n p a l h = go (least-is P test d k i)
   where
     go : {m : ℕ} → Least P k i m → m ≡ n
     go (never g) = absurd (g n a l p)
-    go {m} (found q b e g) = near (tri m n)
-      where
-        near : Tri m n → m ≡ n
-        near (Tri.lt c) = absurd (h m b c q)
-        near (Tri.eq c) = c
-        near (Tri.gt c) = absurd (g n a c p)
+    go {m} (found q b e g) = neither-less (λ c. h m b c q) (λ c. g n a c p)

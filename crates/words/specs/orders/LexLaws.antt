@@ -8,7 +8,7 @@ use native.Mathlib.Decide.{decLt}
 use lib.ListN.{length, length-append}
 use Rattle.words.specs.Words.{_≪_, here, there, _⊑_, done, step, proper, _<ₗ_, prefix, mismatch}
 use Rattle.words.specs.orders.PrefixLaws.{⊑-refl, ⊑-trans, ⊑-length, ⊑-whole, ⊑-both, ⊑-under}
-use Rattle.words.specs.orders.MismatchLaws.{≪-trans, ≪-asym, ≪-not-⊑, ≪-extend, ≪-under, Tri, lt, eq, gt, tri, Compared, less, greater, within, beyond, compared}
+use Rattle.words.specs.orders.MismatchLaws.{≪-trans, ≪-asym, ≪-not-⊑, ≪-extend, ≪-under, Compared, less, greater, within, beyond, compared}
 
 infix 40 _≤ₗ_
 pub data _≤ₗ_ (x y : List ℕ) : Type 0 where
@@ -70,12 +70,9 @@ pub ≤ₗ-cancel : (t : List ℕ) {x y : List ℕ} → (t ++ x) ≤ₗ (t ++ y)
 
 -- words that go on with a and with c after a common t
 pub ≤ₗ-letter : (t : List ℕ) {x y : List ℕ} {a c : ℕ} → (t ++ a ∷ []) ⊑ x → (t ++ c ∷ []) ⊑ y → x ≤ₗ y → a ≤ c
-≤ₗ-letter t {a = a} {c = c} p q h = go (tri c a)
-  where
-    go : Tri c a → a ≤ c
-    go (lt l) = absurd (≤ₗ-not-≪ h (≪-extend (≪-under t (here l)) q p))
-    go (eq e) = omega arith
-    go (gt l) = omega arith
+≤ₗ-letter t {a = a} {c = c} p q h =
+    let n : ¬ (c < a) = λ l. ≤ₗ-not-≪ h (≪-extend (≪-under t (here l)) q p) in
+    omega arith
 
 -- ---- the strict order
 

@@ -8,7 +8,7 @@ use lib.Seq.{slice}
 use lib.IntN.{ℤ, pos, negsuc}
 use Rattle.words.specs.Words.{_≺_, sign}
 use Rattle.words.specs.orders.Decisions.{Decides, holds, fails, eqb-test}
-use Rattle.words.specs.lyndon.WordTests.{inverse-before-test}
+use Rattle.words.specs.orders.OrderTests.{inverse-before-test}
 
 -- the remainder of the range from first to end that begins at start
 abbrev pub remainder : List ℕ → ℕ → ℕ → ℕ → List ℕ

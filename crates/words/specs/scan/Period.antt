@@ -12,7 +12,7 @@ use lib.ListN.{length, take, drop, getD, length-append, length-drop, drop-of-len
 use lib.Seq.{drop-append-le, drop-drop, drop-length, length-take-le}
 use Rattle.words.specs.Words.{_≪_, here, _⊑_, done, InverseLyndon, AntiLyndon}
 use Rattle.words.specs.orders.PrefixLaws.{⊑-refl, ⊑-append, ⊑-both, ⊑-drop, ⊑-next, ⊑-split, ⊑-trans, ⊑-under, take-⊑}
-use Rattle.words.specs.orders.MismatchLaws.{≪-append, ≪-extend, ≪-not-⊑, ≪-trans, ≪-under, Tri, lt, eq, gt, tri}
+use Rattle.words.specs.orders.MismatchLaws.{≪-append, ≪-extend, ≪-not-⊑, ≪-trans, ≪-under}
 use Rattle.words.specs.orders.LexLaws.{_≤ₗ_, lost, pre, ≤ₗ-cancel, ≤ₗ-letter, ≤ₗ-not-≪, ≤ₗ-prefixes, ≤ₗ-refl}
 use Rattle.words.specs.lyndon.WordTests.{anti-lyndon, inverse-lyndon, suffix-below, suffix-loses}
 
@@ -61,15 +61,16 @@ module _ {g : List ℕ} {p : ℕ} (f : InverseLyndon g) (k : Period g p) where
       near : (i : ℕ) → i ≤ length g → drop i g ≤ₗ g → Dec (0 < i) → drop i (g ++ b ∷ []) ≤ₗ (g ++ b ∷ [])
       near i m h (no s) = rw (let z : i ≡ 0 = omega arith in z) (≤ₗ-refl _)
       near i m (lost h) (yes s) = rw (drop-append-le i g (b ∷ []) m) (lost (≪-append _ _ h))
-      near i m (pre h) (yes s) = rw (drop-append-le i g (b ∷ []) m) (letter (tri b (getD g (length (drop i g)) 0)))
+      near i m (pre h) (yes s) = rw (drop-append-le i g (b ∷ []) m) (letter (decLt b (getD g (length (drop i g)) 0)))
         where
           on : (drop i g ++ getD g (length (drop i g)) 0 ∷ []) ⊑ (g ++ b ∷ [])
           on = ⊑-trans (⊑-next h (rw length-drop (omega arith))) (⊑-append g _)
 
-          letter : Tri b (getD g (length (drop i g)) 0) → (drop i g ++ b ∷ []) ≤ₗ (g ++ b ∷ [])
-          letter (lt x) = lost (≪-extend (≪-under (drop i g) (here x)) (⊑-refl _) on)
-          letter (eq x) = pre (subst (λ (c : ℕ). (drop i g ++ c ∷ []) ⊑ (g ++ b ∷ [])) (sym x) on)
-          letter (gt x) = absurd (omega (arith, met-least i s m h))
+          letter : Dec (b < getD g (length (drop i g)) 0) → (drop i g ++ b ∷ []) ≤ₗ (g ++ b ∷ [])
+          letter (yes x) = lost (≪-extend (≪-under (drop i g) (here x)) (⊑-refl _) on)
+          letter (no x) =
+              let e : getD g (length (drop i g)) 0 ≡ b = omega (arith, met-least i s m h) in
+              pre (subst (λ (c : ℕ). (drop i g ++ c ∷ []) ⊑ (g ++ b ∷ [])) e on)
 
       go : (i : ℕ) → Dec (length g < i) → drop i (g ++ b ∷ []) ≤ₗ (g ++ b ∷ [])
       go i (yes m) = rw (drop-of-length-le (g ++ b ∷ []) {i = i} (rw length-append (omega arith))) (pre done)

@@ -13,8 +13,9 @@ use lib.ListN.{length, take, drop, getD, set, length-drop}
 use lib.Seq.{take-suc, length-take-le, getD-take, drop-drop, drop-append-le, getD-set-same, getD-set-other}
 use Rattle.words.specs.Words.{_≪_, here, _⊑_, InverseLyndon}
 use Rattle.words.specs.Factorizations.{failingLength, borderLength}
+use Rattle.words.specs.orders.Decisions.{neither-less}
 use Rattle.words.specs.orders.PrefixLaws.{⊑-refl, ⊑-both, ⊑-trans, take-⊑-take}
-use Rattle.words.specs.orders.MismatchLaws.{≪-append, ≪-extend, ≪-under, Tri, lt, eq, gt, tri}
+use Rattle.words.specs.orders.MismatchLaws.{≪-append, ≪-extend, ≪-under}
 use Rattle.words.specs.orders.LexLaws.{_≤ₗ_, lost, pre, ≤ₗ-not-≪}
 use Rattle.words.specs.lyndon.WordTests.{suffix-below}
 use Rattle.words.specs.icfl.Failing.{Failing, failing-unique, Shortest, shortest-is}
@@ -87,12 +88,11 @@ module _ (w : List ℕ) (n : ℕ) (l : n < length w) where
       (≪-extend (≪-under (take k w) (here h)) (front-letter k (b .shorter)) (⊑-refl _))
 
   not-above : {k : ℕ} → BorderOf w n k → getD w n 0 ≤ getD w k 0 → drop (n - k) (take (suc n) w) ≤ₗ take (suc n) w
-  not-above {k} b h = rw (with-letter k (omega (arith, b .shorter)), border-word w n (omega arith) b) (go (tri (getD w n 0) (getD w k 0)))
+  not-above {k} b h = rw (with-letter k (omega (arith, b .shorter)), border-word w n (omega arith) b) (go (decLt (getD w n 0) (getD w k 0)))
     where
-      go : Tri (getD w n 0) (getD w k 0) → (take k w ++ getD w n 0 ∷ []) ≤ₗ take (suc n) w
-      go (lt x) = lost (≪-extend (≪-under (take k w) (here x)) (⊑-refl _) (front-letter k (b .shorter)))
-      go (eq x) = pre (rw x (front-letter k (b .shorter)))
-      go (gt x) = absurd (omega arith)
+      go : Dec (getD w n 0 < getD w k 0) → (take k w ++ getD w n 0 ∷ []) ≤ₗ take (suc n) w
+      go (yes x) = lost (≪-extend (≪-under (take k w) (here x)) (⊑-refl _) (front-letter k (b .shorter)))
+      go (no x) = pre (rw (let e : getD w n 0 ≡ getD w k 0 = omega arith in e) (front-letter k (b .shorter)))
 
 -- ---- the shortest r
 
@@ -119,15 +119,11 @@ module _ (w : List ℕ) (n r : ℕ) (x : Failing w (suc n)) (y : ShortestBorder 
           rw e at (not-above w n (x .inside) c (y .least (n - k) (omega (arith, y .border .shorter)) c))
 
   same-as : {q : ℕ} → Shortest (take (suc n) w) q → q ≡ r
-  same-as {q} z = go (tri q r)
-    where
-      e : length (take (suc n) w) - suc q ≡ n - q
-      e = omega (arith, sizes .0)
-
-      go : Tri q r → q ≡ r
-      go (lt a) = absurd (≤ₗ-not-≪ (shorter-not-above (n - q) (omega (arith, y .border .shorter)) (omega arith)) (rw e at (z .above)))
-      go (eq a) = a
-      go (gt a) = absurd (≤ₗ-not-≪ (z .shorter (n - r) (omega (arith, sizes .0, z .inside))) (above w n (x .inside) (y .border) (y .below)))
+  same-as {q} z =
+      let e : length (take (suc n) w) - suc q ≡ n - q = omega (arith, sizes .0) in
+      neither-less
+      (λ a. ≤ₗ-not-≪ (shorter-not-above (n - q) (omega (arith, y .border .shorter)) (omega arith)) (rw e at (z .above)))
+      (λ a. ≤ₗ-not-≪ (z .shorter (n - r) (omega (arith, sizes .0, z .inside))) (above w n (x .inside) (y .border) (y .below)))
 
   pub shortest-border-length : borderLength w ≡ r
   shortest-border-length =
