@@ -1,11 +1,10 @@
--- Ends and boundaries: the ends of a list of words are its boundaries but the first (ends-boundary, boundary-ends), and neighbouring
--- ends bound a word of it (part-of, parts-of).
-use mathlib.Core.Path.{_≡_, refl, ap}
+-- Ends and boundaries: the ends of a list of words are its boundaries but the first (ends-boundary, boundary-ends). Laws of Adjacent.
+use mathlib.Core.Path.{_≡_, refl}
 use mathlib.Core.Logic.{_⊎_, inl, inr}
-use mathlib.Core.List.{List, [], _∷_, _++_, flatten, List·Memᴰ, List·Memᴰ·head, List·Memᴰ·tail, List·Memᴰ·cases-cons, List·Memᴰ·not-nil, Memᴰ·cast}
+use mathlib.Core.List.{List, [], _∷_, List·Memᴰ, List·Memᴰ·head, List·Memᴰ·tail, List·Memᴰ·cases-cons, List·Memᴰ·not-nil, Memᴰ·cast}
 use Prim.Native.Nat.{ℕ, _+_, _<_}
 use native.Mathlib.Omega.{arith}
-use lib.ListN.{length, length-append}
+use lib.ListN.{length}
 use Rattle.words.specs.Factorizations.{endsFrom}
 use Rattle.words.specs.Statements.{Adjacent, here, there}
 use Rattle.words.specs.places.FirstSuffixes.{Boundary, start, later}
@@ -71,31 +70,3 @@ adjacent-left (there x) = List·Memᴰ·tail (adjacent-left x)
 pub adjacent-right : {i j : ℕ} {es : List ℕ} → Adjacent i j es → List·Memᴰ j es
 adjacent-right here = List·Memᴰ·tail (List·Memᴰ·head refl)
 adjacent-right (there x) = List·Memᴰ·tail (adjacent-right x)
-
--- from b on, the word from i to j
-pub record PartOf (b : ℕ) (ms : List (List ℕ)) (i j : ℕ) : Type 0 where
-  pub before : List (List ℕ)
-  pub word : List ℕ
-  pub after : List (List ℕ)
-  pub is : ms ≡ before ++ word ∷ after
-  pub place : i ≡ b + length (flatten before)
-  pub end : j ≡ i + length word
-
-pub part-from : (b : ℕ) (ms : List (List ℕ)) {i j : ℕ} → Adjacent i j (b ∷ endsFrom b ms) → PartOf b ms i j
-unfolding endsFrom flatten
-part-from b [] x = absurd (adjacent-one x)
-part-from b (m ∷ ms) {i} {j} x = go (adjacent-cases x) (λ y. part-from (b + length m) ms y)
-  where
-    go : ((i ≡ b) × (j ≡ b + length m)) ⊎ Adjacent i j ((b + length m) ∷ endsFrom (b + length m) ms)
-        → (Adjacent i j ((b + length m) ∷ endsFrom (b + length m) ms) → PartOf (b + length m) ms i j) → PartOf b (m ∷ ms) i j
-    go (inl e) next = record { before = []; word = m; after = ms; is = refl; place = omega (arith, e .0); end = omega (arith, e .0, e .1) }
-    go (inr y) next =
-        let q = next y in
-        record {
-          before = m ∷ q .before;
-          word = q .word;
-          after = q .after;
-          is = ap (λ (t : List (List ℕ)). m ∷ t) (q .is);
-          place = rw length-append (omega (arith, q .place));
-          end = q .end;
-        }
