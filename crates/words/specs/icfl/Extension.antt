@@ -10,16 +10,13 @@ use lib.ListN.{length, drop, length-append, length-drop}
 use lib.Seq.{drop-append-le, drop-append-seam}
 use Rattle.words.specs.Words.{_≪_, _⊑_, done, step, InverseLyndon}
 use Rattle.words.specs.Factorizations.{joinFirst}
-use Rattle.words.specs.Statements.{DominatedBy, Next, end, by, Linked, more}
+use Rattle.words.specs.Statements.{DominatedBy, Next, end, by, more}
 use Rattle.words.specs.orders.PrefixLaws.{⊑-refl, ⊑-trans, ⊑-both, ⊑-append, ⊑-drop, ⊑-under, ⊑-split}
 use Rattle.words.specs.orders.MismatchLaws.{≪-asym, ≪-not-⊑, ≪-extend, ≪-cancel, ≪-left-nonempty, Compared, less, greater, within, beyond, compared}
 use Rattle.words.specs.orders.LexLaws.{_≤ₗ_, pre, ≤ₗ-not-≪, ≤ₗ-≪-long, ≤ₗ-≪-prefix, ≤ₗ-prefixes}
 use Rattle.words.specs.orders.Decisions.{Decides, holds, fails, leb-test}
 use Rattle.words.specs.lyndon.WordTests.{suffix-below, inverse-lyndon}
-use Rattle.words.specs.lyndon.Suffixes.{Begins, first, second, begins, dominated-at, dominated}
-
-abbrev Dominated : List (List ℕ) → Type 0
-Dominated ms = Linked InverseLyndon DominatedBy ms
+use Rattle.words.specs.lyndon.Suffixes.{Begins, first, second, begins, Dominated, dominated-at, dominated}
 
 -- a nonempty prefix of an inverse Lyndon word is one (source 004, Lemma 3.2)
 pub prefix-inverse-lyndon : {x y : List ℕ} → x ⊑ y → 0 < length x → InverseLyndon y → InverseLyndon x

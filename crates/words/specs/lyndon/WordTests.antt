@@ -1,19 +1,17 @@
 -- The tests of the two kinds of words decide: inverse-lyndon-test, anti-lyndon-test. On the way, the two kinds of words by
 -- places, the suffixes being drop i w: suffix-below and inverse-lyndon, suffix-loses and anti-lyndon.
-use mathlib.Core.Path.{_≡_, ap}
+use mathlib.Core.Path.{_≡_}
 use mathlib.Core.List.{List, [], _∷_, _++_}
 use mathlib.Core.Bool.{Bool, true, false}
 use Prim.Native.Nat.{ℕ, zero, suc, _<_}
 use native.Mathlib.Omega.{arith}
 use native.Mathlib.Decide.{decLt}
-use lib.ListN.{length, take, drop, length-append, length-drop, take-append-drop, drop-of-length-le}
-use lib.Seq.{drop-append-seam, length-take-le}
+use lib.ListN.{length, drop, length-drop, drop-of-length-le}
 use Rattle.words.specs.Words.{_≪_, done, proper, _<ₗ_, _≺_, prefix, mismatch, InverseLyndon, AntiLyndon, isLexLess, isInverseBefore, everySuffix, isInverseLyndon, isAntiLyndon}
 use Rattle.words.specs.orders.LexLaws.{_≤ₗ_, lost, pre, ≤ₗ-refl, <ₗ-≤ₗ}
 use Rattle.words.specs.orders.OrderTests.{lex-less-test, inverse-before-test}
+use Rattle.words.specs.lyndon.Suffixes.{by-parts, by-places}
 use Rattle.words.specs.orders.Decisions.{Decides, holds, fails, decides-map}
-
--- ---- every suffix
 
 pub every-suffix-test : (P : List ℕ → Type 0) (test : List ℕ → Bool) → ((s : List ℕ) → Decides (P s) (test s)) → (v : List ℕ)
     → Decides ((i : ℕ) → i < length v → P (drop i v)) (everySuffix test v)
@@ -30,20 +28,11 @@ every-suffix-test P test d (a ∷ v) = go (d (a ∷ v)) (every-suffix-test P tes
     go (holds p) e = rest p e
     go (fails n) e = fails (λ f. n (f 0 (omega arith)))
 
--- a statement on every nonempty proper suffix, by parts and by places
-by-parts : (P : List ℕ → Type 0) (w : List ℕ) → ((i : ℕ) → 0 < i → i < length w → P (drop i w)) → (u s : List ℕ) → u ++ s ≡ w → 0 < length u → 0 < length s → P s
-by-parts P w f u s e p q =
-    let z : drop (length u) w ≡ s = rw (← e) (drop-append-seam u s) in
-    rw z at (f (length u) p (omega (arith, simp length-append at (ap length e))))
-
-by-places : (P : List ℕ → Type 0) (w : List ℕ) → ((u s : List ℕ) → u ++ s ≡ w → 0 < length u → 0 < length s → P s) → (i : ℕ) → 0 < i → i < length w → P (drop i w)
-by-places P w f i p l = f (take i w) (drop i w) (take-append-drop i w) (rw (length-take-le i w (omega arith)) p) (rw length-drop (omega arith))
-
 proper-suffix-test : (P : List ℕ → Type 0) (test : List ℕ → Bool) → ((s : List ℕ) → Decides (P s) (test s)) → (a : ℕ) (v : List ℕ)
     → Decides ((u s : List ℕ) → u ++ s ≡ a ∷ v → 0 < length u → 0 < length s → P s) (everySuffix test v)
 proper-suffix-test P test d a v = decides-map
-    (λ f. by-parts P (a ∷ v) (λ i. elim i [ zero ↦ λ p l. absurd (omega arith) | suc j ↦ λ p l. f j (omega arith) ]))
-    (λ f i l. by-places P (a ∷ v) f (suc i) (omega arith) (omega arith))
+    (λ f. by-parts P (a ∷ v) 1 (λ i. elim i [ zero ↦ λ p l. absurd (omega arith) | suc j ↦ λ p l. f j (omega arith) ]))
+    (λ f i l. by-places P (a ∷ v) 1 f (suc i) (omega arith) (omega arith))
     (every-suffix-test P test d v)
 
 -- ---- inverse Lyndon words
@@ -54,10 +43,10 @@ suffix-below {w} k i = go (decLt 0 i) (decLt i (length w))
     go : Dec (0 < i) → Dec (i < length w) → drop i w ≤ₗ w
     go (no p) d = rw (let z : i ≡ 0 = omega arith in z) (≤ₗ-refl w)
     go (yes p) (no l) = rw (drop-of-length-le w {i = i} (omega arith)) (pre done)
-    go (yes p) (yes l) = <ₗ-≤ₗ (by-places (λ s. s <ₗ w) w (k .exceeds) i p l)
+    go (yes p) (yes l) = <ₗ-≤ₗ (by-places (λ s. s <ₗ w) w 1 (k .exceeds) i p l)
 
 pub inverse-lyndon : {w : List ℕ} → 0 < length w → ((i : ℕ) → drop i w ≤ₗ w) → InverseLyndon w
-inverse-lyndon {w} p f = record { nonempty = p; exceeds = by-parts (λ s. s <ₗ w) w (λ i q l. go i q l (f i)) }
+inverse-lyndon {w} p f = record { nonempty = p; exceeds = by-parts (λ s. s <ₗ w) w 1 (λ i q l. go i q l (f i)) }
   where
     go : (i : ℕ) → 0 < i → i < length w → drop i w ≤ₗ w → drop i w <ₗ w
     go i q l (lost h) = mismatch h
@@ -72,14 +61,14 @@ inverse-lyndon-test (a ∷ v) = decides-map (λ f. record { nonempty = omega ari
 -- ---- anti-Lyndon words (source 004, Proposition 7.4: a nonempty proper suffix of an anti-Lyndon word is below it by a mismatch)
 
 pub suffix-loses : {w : List ℕ} → AntiLyndon w → (i : ℕ) → 0 < i → i < length w → drop i w ≪ w
-suffix-loses {w} k i p l = go (by-places (λ s. w ≺ s) w (k .precedes) i p l)
+suffix-loses {w} k i p l = go (by-places (λ s. w ≺ s) w 1 (k .precedes) i p l)
   where
     go : w ≺ drop i w → drop i w ≪ w
     go (mismatch h) = h
     go (prefix (proper h m)) = absurd (omega (arith, simp length-drop at m))
 
 pub anti-lyndon : {w : List ℕ} → 0 < length w → ((i : ℕ) → 0 < i → i < length w → drop i w ≪ w) → AntiLyndon w
-anti-lyndon {w} p f = record { nonempty = p; precedes = by-parts (λ s. w ≺ s) w (λ i q l. mismatch (f i q l)) }
+anti-lyndon {w} p f = record { nonempty = p; precedes = by-parts (λ s. w ≺ s) w 1 (λ i q l. mismatch (f i q l)) }
 
 pub anti-lyndon-test : (w : List ℕ) → Decides (AntiLyndon w) (isAntiLyndon w)
 unfolding isAntiLyndon

@@ -1,5 +1,5 @@
 -- Tests that decide: Decides P b says that the test b is true just where P holds. Numbers, and the least number that passes.
-use mathlib.Core.Path.{_≡_, refl, ap}
+use mathlib.Core.Path.{_≡_, refl, ap, sym}
 use mathlib.Core.Bool.{Bool, true, false, not, _&&_, true≢false, false≢true}
 use Prim.Native.Nat.{ℕ, zero, suc, _+_, _≤_, _<_, compare, Ordering, Ordering·lt, Ordering·eq, Ordering·gt, compare·zero-zero, compare·zero-suc, compare·suc-zero, compare·suc-suc}
 use native.Mathlib.Nat.{le-refl}
@@ -27,6 +27,10 @@ true-decides (fails n) q = absurd (n q)
 pub false-decides : {P : Type 0} {b : Bool} → Decides P b → ¬ P → b ≡ false
 false-decides (holds p) n = absurd (n p)
 false-decides (fails m) n = refl
+
+pub decides-unique : {P : Type 0} {a b : Bool} → Decides P a → Decides P b → a ≡ b
+decides-unique (holds p) d = sym (true-decides d p)
+decides-unique (fails n) d = sym (false-decides d n)
 
 pub decides-not : {P : Type 0} {b : Bool} → Decides P b → Decides (¬ P) (not b)
 decides-not (holds p) = fails (λ n. n p)

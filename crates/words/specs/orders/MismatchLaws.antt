@@ -27,10 +27,6 @@ pub ≪-left-nonempty : {x y : List ℕ} → x ≪ y → 0 < length x
 ≪-left-nonempty (here h) = omega arith
 ≪-left-nonempty (there h) = omega arith
 
-pub ≪-right-nonempty : {x y : List ℕ} → x ≪ y → 0 < length y
-≪-right-nonempty (here h) = omega arith
-≪-right-nonempty (there h) = omega arith
-
 -- ---- append
 
 -- a mismatch stays whatever follows (source 004, Lemma 2.3)

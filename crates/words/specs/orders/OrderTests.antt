@@ -7,8 +7,8 @@ use native.Mathlib.Omega.{arith}
 use lib.ListN.{length}
 use Rattle.words.specs.Words.{proper, _<ₗ_, _≺_, prefix, mismatch, Outcome, isLexLess, isInverseBefore, isSame}
 use Rattle.words.specs.orders.MismatchLaws.{≪-asym, Found, less, greater, same, shorter, longer, found}
-use Rattle.words.specs.orders.LexLaws.{<ₗ-irrefl, <ₗ-trans}
-use Rattle.words.specs.orders.InverseLaws.{≺-irrefl, ≺-trans}
+use Rattle.words.specs.orders.LexLaws.{lost, pre, ≤ₗ-refl, <ₗ-not-≤ₗ}
+use Rattle.words.specs.orders.InverseLaws.{_≼_, won, ≺-irrefl, ≺-not-≼}
 use Rattle.words.specs.orders.Decisions.{Decides, holds, fails}
 
 pub lex-less-test : (x y : List ℕ) → Decides (x <ₗ y) (isLexLess x y)
@@ -19,9 +19,9 @@ lex-less-test x y = go (found x y)
         → Decides (x <ₗ y) (elim o [ Outcome.less ↦ true | Outcome.greater ↦ false | Outcome.same ↦ false | Outcome.shorter ↦ true | Outcome.longer ↦ false ])
     go (less h) = holds (mismatch h)
     go (shorter h) = holds (prefix h)
-    go (greater h) = fails (λ k. <ₗ-irrefl (<ₗ-trans k (mismatch h)))
-    go (same e) = fails (λ k. <ₗ-irrefl (rw e at k))
-    go (longer h) = fails (λ k. <ₗ-irrefl (<ₗ-trans k (prefix h)))
+    go (greater h) = fails (λ k. <ₗ-not-≤ₗ k (lost h))
+    go (same e) = fails (λ k. <ₗ-not-≤ₗ k (rw e (≤ₗ-refl y)))
+    go (longer (proper h l)) = fails (λ k. <ₗ-not-≤ₗ k (pre h))
 
 pub inverse-before-test : (x y : List ℕ) → Decides (x ≺ y) (isInverseBefore x y)
 unfolding isInverseBefore
@@ -31,9 +31,9 @@ inverse-before-test x y = go (found x y)
         → Decides (x ≺ y) (elim o [ Outcome.less ↦ false | Outcome.greater ↦ true | Outcome.same ↦ false | Outcome.shorter ↦ true | Outcome.longer ↦ false ])
     go (greater h) = holds (mismatch h)
     go (shorter h) = holds (prefix h)
-    go (less h) = fails (λ k. ≺-irrefl (≺-trans k (mismatch h)))
+    go (less h) = fails (λ k. ≺-not-≼ k (won h))
     go (same e) = fails (λ k. ≺-irrefl (rw e at k))
-    go (longer h) = fails (λ k. ≺-irrefl (≺-trans k (prefix h)))
+    go (longer (proper h l)) = fails (λ k. ≺-not-≼ k (_≼_.pre h))
 
 pub same-test : (x y : List ℕ) → Decides (x ≡ y) (isSame x y)
 unfolding isSame

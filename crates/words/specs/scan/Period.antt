@@ -39,11 +39,9 @@ border-letter {g} k p i s a l z h =
 module _ {g : List ℕ} {p : ℕ} (f : InverseLyndon g) (k : Period g p) where
   -- the letter after any border is no smaller than the letter after the longest
   met-least : (i : ℕ) → 0 < i → i ≤ length g → drop i g ⊑ g → getD g (length g - p) 0 ≤ getD g (length (drop i g)) 0
-  met-least i s l h = go (decLt i p)
-    where
-      go : Dec (i < p) → getD g (length g - p) 0 ≤ getD g (length (drop i g)) 0
-      go (yes q) = absurd (k .least i s q h)
-      go (no q) = rw (length-drop p g) at (border-letter f p i (k .positive) (omega arith) l (k .repeats) h)
+  met-least i s l h =
+      let n : ¬ (i < p) = λ q. k .least i s q h in
+      rw (length-drop p g) at (border-letter f p i (k .positive) (omega arith) l (k .repeats) h)
 
   pub step-less : (b : ℕ) → b < getD g (length g - p) 0 → AntiLyndon (g ++ b ∷ [])
   step-less b l = anti-lyndon (rw length-append (omega arith)) (λ i s m. go i s (omega (arith, simp length-append at m)) (suffix-below f i))

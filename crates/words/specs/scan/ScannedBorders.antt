@@ -32,11 +32,9 @@ scanned-border s = record { shorter = s .shorter; repeats = s .period .repeats }
 
 -- no border is longer than the one that the period leaves
 longest-border : {w : List ℕ} {k b j : ℕ} → Period (take k w) (k - b) → BorderOf w k j → j ≤ b
-longest-border {w} {k} {b} {j} p c = go (decLt b j)
-  where
-    go : Dec (b < j) → j ≤ b
-    go (no h) = omega arith
-    go (yes h) = absurd (p .least (k - j) (omega (arith, c .shorter)) (omega (arith, c .shorter)) (c .repeats))
+longest-border {w} {k} {b} {j} p c =
+    let n : ¬ (b < j) = λ h. p .least (k - j) (omega (arith, c .shorter)) (omega (arith, c .shorter)) (c .repeats) in
+    omega arith
 
 module _ (w : List ℕ) (n : ℕ) (l : n ≤ length w) where
   size : length (take n w) ≡ n
