@@ -9,6 +9,10 @@ use lib.Seq.{slice}
 use lib.IntN.{ℤ, pos, negsuc}
 use lib.Dec.{eqb}
 
+-- a record's greatest length: "length above 4,096" is refused; no law of words needs a bound
+abbrev pub mostLetters : ℕ
+mostLetters = 4096
+
 infix 40 _≪_ _⊑_ _⊏_ _<ₗ_ _≺_
 -- mismatch order: "the two differ at a place that lies in both, and at the first such place the piece has the smaller byte"
 pub data _≪_ : List ℕ → List ℕ → Type 0 where
