@@ -36,7 +36,8 @@ module _ (w : List ℕ) (p r : ℕ) (x : Failing w (suc (p + r))) where
   failing-border-above k =
       let e : take r w ≡ take r (drop p w) = rw place-p at (k .1 .0) in
       let h : getD w r 0 < getD w (p + r) 0 = rw place-b at (k .1 .1) in
-      let f : (take r w ++ getD w r 0 ∷ []) ⊑ take (suc (p + r)) w = rw (take-suc w r 0 (omega (arith, x .inside))) at (take-⊑-take (suc r) (suc (p + r)) w (omega arith)) in
+      let f : (take r w ++ getD w r 0 ∷ []) ⊑ take (suc (p + r)) w
+      = rw (take-suc w r 0 (omega (arith, x .inside))) at (take-⊑-take (suc r) (suc (p + r)) w (omega arith)) in
       rw (suffix-parts w p r x, ← e) (≪-extend (≪-under (take r w) (here h)) f (⊑-refl _))
 
   -- by the order, and shortest, so by letters
@@ -69,7 +70,8 @@ module _ (w : List ℕ) (l r : ℕ) (x : Failing w l) (b : r < l) where
 -- the shortest by the order is the least by letters
 pub border-least : (w : List ℕ) (r : ℕ) → Failing w (failingLength w) → Shortest (take (failingLength w) w) r → borderLength w ≡ r
 unfolding borderLength
-border-least w r x y = least-unique (λ k. FailingBorder w l k) (λ k. isBorder w l k) (failing-border-test w l) l 0 r (by-letters w l r x b y) (omega arith) (omega (arith, b))
+border-least w r x y = least-unique (λ k. FailingBorder w l k) (λ k. isBorder w l k) (failing-border-test w l) l 0 r
+    (by-letters w l r x b y) (omega arith) (omega (arith, b))
     (λ j a c k. ≤ₗ-not-≪ (y .shorter (l - 1 - j) (omega (arith, n, b))) (by-order w l j x (omega (arith, b)) k))
   where
     l : ℕ

@@ -52,7 +52,8 @@ module _ {w p r : List ℕ} {b : ℕ} {q : List ℕ} (k : Extension w p r b q) w
   extension-suffix : (i : ℕ) → i < length p → drop i p ≪ (r ++ b ∷ [])
   extension-suffix i l =
       let h : (drop i p ++ r) ≤ₗ (p ++ r) = rw (drop-append-le i p r (omega arith)) at (suffix-below (k .front) i) in
-      below-alone (k .shortest) (⊑-append r _) (≤ₗ-≪-long h (≪-extend extension-below (⊑-append p r) (⊑-refl _)) (simp (length-append, length-drop) (omega arith)))
+      below-alone (k .shortest) (⊑-append r _)
+      (≤ₗ-≪-long h (≪-extend extension-below (⊑-append p r) (⊑-refl _)) (simp (length-append, length-drop) (omega arith)))
 
   -- source 004, Lemma 4.1
   pub extension-prefix : r ⊑ p

@@ -72,7 +72,8 @@ unfolding longestWithin
 within-longest zero w = record { upto = le-refl _; word = λ h. absurd (omega arith); longer = λ j h l. absurd (omega arith) }
 within-longest (suc k) w = go (anti-lyndon-test (take (suc k) w)) (within-longest k w)
   where
-    go : {t : Bool} → Decides (AntiLyndon (take (suc k) w)) t → Longest w k (longestWithin k w) → Longest w (suc k) (elim t [ true ↦ suc k | false ↦ longestWithin k w ])
+    go : {t : Bool} → Decides (AntiLyndon (take (suc k) w)) t → Longest w k (longestWithin k w)
+        → Longest w (suc k) (elim t [ true ↦ suc k | false ↦ longestWithin k w ])
     go (holds s) v = record { upto = le-refl _; word = λ h. s; longer = λ j h l. absurd (omega arith) }
     go (fails s) v = record { upto = omega arith; word = v .word; longer = λ j h l. near j h l (decLt k j) }
       where

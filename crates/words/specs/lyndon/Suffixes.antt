@@ -44,12 +44,14 @@ overlap (a ∷ x) (b ∷ y) {u} {v} e = go (overlap x y (tail-eq-of-cons-eq e))
 
 -- ---- a statement on the nonempty suffixes from place n on, by parts and by places
 
-pub by-parts : (P : List ℕ → Type 0) (w : List ℕ) (n : ℕ) → ((i : ℕ) → n ≤ i → i < length w → P (drop i w)) → (u s : List ℕ) → u ++ s ≡ w → n ≤ length u → 0 < length s → P s
+pub by-parts : (P : List ℕ → Type 0) (w : List ℕ) (n : ℕ) → ((i : ℕ) → n ≤ i → i < length w → P (drop i w))
+    → (u s : List ℕ) → u ++ s ≡ w → n ≤ length u → 0 < length s → P s
 by-parts P w n f u s e p q =
     let z : drop (length u) w ≡ s = rw (← e) (drop-append-seam u s) in
     rw z at (f (length u) p (omega (arith, simp length-append at (ap length e))))
 
-pub by-places : (P : List ℕ → Type 0) (w : List ℕ) (n : ℕ) → ((u s : List ℕ) → u ++ s ≡ w → n ≤ length u → 0 < length s → P s) → (i : ℕ) → n ≤ i → i < length w → P (drop i w)
+pub by-places : (P : List ℕ → Type 0) (w : List ℕ) (n : ℕ) → ((u s : List ℕ) → u ++ s ≡ w → n ≤ length u → 0 < length s → P s)
+    → (i : ℕ) → n ≤ i → i < length w → P (drop i w)
 by-places P w n f i p l = f (take i w) (drop i w) (take-append-drop i w) (rw (length-take-le i w (omega arith)) p) (rw length-drop (omega arith))
 
 -- ---- domination

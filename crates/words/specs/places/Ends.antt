@@ -25,7 +25,8 @@ unfolding endsFrom
 ends-from-boundary i [] h = absurd (List·Memᴰ·not-nil h)
 ends-from-boundary i (m ∷ ms) {e} h = go (List·Memᴰ·cases-cons h) (λ x. ends-from-boundary (i + length m) ms x)
   where
-    go : (e ≡ i + length m) ⊎ List·Memᴰ e (endsFrom (i + length m) ms) → (List·Memᴰ e (endsFrom (i + length m) ms) → (c : ℕ) × (e ≡ i + length m + c) × Boundary c ms)
+    go : (e ≡ i + length m) ⊎ List·Memᴰ e (endsFrom (i + length m) ms)
+        → (List·Memᴰ e (endsFrom (i + length m) ms) → (c : ℕ) × (e ≡ i + length m + c) × Boundary c ms)
         → (c : ℕ) × (e ≡ i + c) × Boundary c (m ∷ ms)
     go (inl x) next = (length m + 0, omega arith, later start)
     go (inr x) next = let q = next x in (length m + q .0, omega (arith, q .1), later (q .2))

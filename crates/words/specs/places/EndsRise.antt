@@ -53,7 +53,9 @@ rises-at (more h r) (suc i) l = rises-at r i (omega arith)
 pub rises-last : {n b : ℕ} {es : List ℕ} → Rises n b es → 0 < length es → getD es (length es - 1) 0 ≡ n
 rises-last (done z) l = absurd (omega arith)
 rises-last (more h (done z)) l = z
-rises-last (more h (more {es = es} k r)) l = rw (let z : suc (suc (length es)) - 1 ≡ suc (suc (length es) - 1) = omega arith in z) (rises-last (more k r) (omega arith))
+rises-last (more h (more {es = es} k r)) l =
+    let z : suc (suc (length es)) - 1 ≡ suc (suc (length es) - 1) = omega arith in
+    rw z (rises-last (more k r) (omega arith))
 
 -- ---- the factorizations
 

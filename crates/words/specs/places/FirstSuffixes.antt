@@ -117,7 +117,8 @@ first-leads x u y f i = go (decLt i (length u))
   where
     go : Dec (i < length u) → y ≼ (drop i u ++ y)
     go (no h) = rw (drop-of-length-le u {i = i} (omega arith)) (≼-refl y)
-    go (yes h) = rw (drop-append-add x (u ++ y) (length u), drop-append-add x (u ++ y) i, drop-append-seam, drop-append-le i u y (omega arith)) at (f (length x + i) (omega arith))
+    go (yes h) = rw (drop-append-add x (u ++ y) (length u), drop-append-add x (u ++ y) i, drop-append-seam, drop-append-le i u y (omega arith)) at
+        (f (length x + i) (omega arith))
 
 pub range-before : {u y : List ℕ} → Leads u y → (i j : ℕ) → drop i u ≼ drop j u → (drop i u ++ y) ≼ (drop j u ++ y)
 range-before h i j (won x) = won (≪-append _ _ x)

@@ -32,7 +32,8 @@ slice-middle : (u m y : List ℕ) {i j : ℕ} → i ≡ length u → j ≡ lengt
 slice-middle u m y {i} {j} p q = rw (← append-assoc u m y, take-at (u ++ m) y j (rw length-append (omega arith)), drop-at u m i (omega arith))
 
 -- m, which ends where the list begins, and the first word of the list
-first-linked : {R : List ℕ → List ℕ → Type 0} (u m : List ℕ) (ms : List (List ℕ)) {n j k : ℕ} → j ≡ length u → Next R m ms → Rises n j (endsFrom j ms) → Adjacent j k (j ∷ endsFrom j ms)
+first-linked : {R : List ℕ → List ℕ → Type 0} (u m : List ℕ) (ms : List (List ℕ)) {n j k : ℕ} → j ≡ length u → Next R m ms
+    → Rises n j (endsFrom j ms) → Adjacent j k (j ∷ endsFrom j ms)
     → R m (slice j k (u ++ flatten ms))
 unfolding endsFrom flatten
 first-linked u m [] e d r x = absurd (adjacent-one x)
@@ -44,7 +45,8 @@ first-linked {R} u m (n ∷ ns) {j = j} {k = k} e (by d) r x = go (adjacent-case
 
 module _ {P : List ℕ → Type 0} {R : List ℕ → List ℕ → Type 0} where
   -- u stands before the list
-  pub part-word : (u : List ℕ) (ms : List (List ℕ)) {i j : ℕ} → Linked P R ms → Adjacent i j (length u ∷ endsFrom (length u) ms) → P (slice i j (u ++ flatten ms))
+  pub part-word : (u : List ℕ) (ms : List (List ℕ)) {i j : ℕ} → Linked P R ms → Adjacent i j (length u ∷ endsFrom (length u) ms)
+      → P (slice i j (u ++ flatten ms))
   unfolding endsFrom flatten
   part-word u [] g x = absurd (adjacent-one x)
   part-word u (m ∷ ms) {i} {j} (Linked.more p d g) x = go (adjacent-cases x) (λ y. part-word (u ++ m) ms g y)
@@ -59,7 +61,8 @@ module _ {P : List ℕ → Type 0} {R : List ℕ → List ℕ → Type 0} where
       → R (slice i j (u ++ flatten ms)) (slice j k (u ++ flatten ms))
   unfolding endsFrom flatten
   parts-linked u [] g r x y = absurd (adjacent-one x)
-  parts-linked u (m ∷ ms) {n} {i} {j} {k} (Linked.more p d g) r x y = go (adjacent-cases x) (adjacent-cases y) (λ s x y. parts-linked (u ++ m) ms {n = n} g s x y)
+  parts-linked u (m ∷ ms) {n} {i} {j} {k} (Linked.more p d g) r x y =
+      go (adjacent-cases x) (adjacent-cases y) (λ s x y. parts-linked (u ++ m) ms {n = n} g s x y)
     where
       es : List ℕ
       es = (length u + length m) ∷ endsFrom (length u + length m) ms

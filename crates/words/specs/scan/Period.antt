@@ -32,7 +32,8 @@ border-letter {g} k p i s a l z h =
     let b : ℕ = getD g (length (drop p g)) 0 in
     let y : (drop p g ++ b ∷ []) ⊑ g = ⊑-next z (rw length-drop (omega arith)) in
     let e : drop (i - p) (drop p g) ≡ drop i g = drop-drop (i - p) p g ∙ ap (λ (n : ℕ). drop n g) (let e : p + (i - p) ≡ i = omega arith in e) in
-    let d : (drop (i - p) (drop p g) ++ b ∷ []) ⊑ drop (i - p) g = rw (drop-append-le (i - p) (drop p g) (b ∷ []) (rw length-drop (omega arith))) at (⊑-drop (i - p) y) in
+    let d : (drop (i - p) (drop p g) ++ b ∷ []) ⊑ drop (i - p) g
+    = rw (drop-append-le (i - p) (drop p g) (b ∷ []) (rw length-drop (omega arith))) at (⊑-drop (i - p) y) in
     let t : (drop i g ++ b ∷ []) ⊑ drop (i - p) g = subst (λ (x : List ℕ). (x ++ b ∷ []) ⊑ drop (i - p) g) e d in
     ≤ₗ-letter (drop i g) t (⊑-next h (rw length-drop (omega arith))) (suffix-below k (i - p))
 

@@ -60,7 +60,8 @@ module _ (w : List ℕ) (n : ℕ) (l : n ≤ length w) where
       let s : length (take k w) ≡ k = length-take-le k w (omega (arith, b .shorter)) in
       record {
         shorter = h;
-        repeats = ⊑-both (rw (border-drop {k = k} j b (omega arith)) at (c .repeats)) (take-⊑-take k n w (omega (arith, b .shorter))) (rw (length-drop, s) (omega arith));
+        repeats = ⊑-both (rw (border-drop {k = k} j b (omega arith)) at (c .repeats))
+            (take-⊑-take k n w (omega (arith, b .shorter))) (rw (length-drop, s) (omega arith));
       }
 
   -- the shorter of two borders is followed by a letter no smaller
@@ -149,7 +150,8 @@ pub record Walk (w : List ℕ) (n k : ℕ) : Type 0 where
 pub walk-on : {w : List ℕ} {n k b : ℕ} → n ≤ length w → Walk w n k → Scanned w k b → getD w b 0 < getD w n 0 → Walk w n b
 walk-on {w} {n} l x s h = record { border = border-of-border w n l (x .border) (scanned-border s); below = h }
 
-pub walk-stops : {w : List ℕ} {n k b : ℕ} → n ≤ length w → InverseLyndon (take n w) → Walk w n k → Scanned w k b → getD w n 0 ≤ getD w b 0 → ShortestBorder w n k
+pub walk-stops : {w : List ℕ} {n k b : ℕ} → n ≤ length w → InverseLyndon (take n w) → Walk w n k → Scanned w k b → getD w n 0 ≤ getD w b 0
+    → ShortestBorder w n k
 walk-stops {w} {n} {k} {b} l g x s h = record {
   border = x .border;
   below = x .below;
