@@ -1,15 +1,15 @@
 -- |r| by letters, as paper 01 has it, is |r| by the order: extension-is says that failingLength, borderLength and prefixLength of a
 -- nonempty word that is not inverse Lyndon give an Extension. That 2|r| + 2 ≤ L is needed only here.
 use mathlib.Core.Path.{_≡_, refl, sym, subst}
-use mathlib.Core.List.{List, [], _∷_, _++_}
+use mathlib.Core.List.{List}
 use Prim.Native.Nat.{ℕ, suc, _+_, _-_, _*_, _≤_, _<_}
 use native.Mathlib.Omega.{arith}
 use lib.ListN.{length, take, drop, getD, length-drop}
-use lib.Seq.{take-suc, length-take-le, getD-take}
-use Rattle.words.specs.Words.{_≪_, here, _⊑_, InverseLyndon}
+use lib.Seq.{length-take-le, getD-take}
+use Rattle.words.specs.Words.{_≪_, InverseLyndon}
 use Rattle.words.specs.Factorizations.{isBorder, failingLength, borderLength, prefixLength}
-use Rattle.words.specs.orders.PrefixLaws.{⊑-refl, ⊑-trans, ⊑-both, ⊑-whole, take-⊑, take-⊑-take}
-use Rattle.words.specs.orders.MismatchLaws.{≪-extend, ≪-under, ≪-last}
+use Rattle.words.specs.orders.PrefixLaws.{⊑-trans, ⊑-both, ⊑-whole, take-⊑}
+use Rattle.words.specs.orders.MismatchLaws.{take-≪-larger, ≪-last}
 use Rattle.words.specs.orders.LexLaws.{≤ₗ-not-≪}
 use Rattle.words.specs.orders.Decisions.{Decides, decides-and, leb-test, least-unique}
 use Rattle.words.specs.orders.OrderTests.{same-test}
@@ -36,9 +36,7 @@ module _ (w : List ℕ) (p r : ℕ) (x : Failing w (suc (p + r))) where
   failing-border-above k =
       let e : take r w ≡ take r (drop p w) = rw place-p at (k .1 .0) in
       let h : getD w r 0 < getD w (p + r) 0 = rw place-b at (k .1 .1) in
-      let f : (take r w ++ getD w r 0 ∷ []) ⊑ take (suc (p + r)) w
-      = rw (take-suc w r 0 (omega (arith, x .inside))) at (take-⊑-take (suc r) (suc (p + r)) w (omega arith)) in
-      rw (suffix-parts w p r x, ← e) (≪-extend (≪-under (take r w) (here h)) f (⊑-refl _))
+      rw (suffix-parts w p r x, ← e) (take-≪-larger r (suc (p + r)) w (omega arith) (x .inside) h)
 
   -- by the order, and shortest, so by letters
   shortest-failing-border : Shortest (take (suc (p + r)) w) r → FailingBorder w (suc (p + r)) r

@@ -1,13 +1,13 @@
 -- Laws of ≪, and the one case split that both orders are made of: found x y, and compared x y with less detail.
 use mathlib.Core.Path.{_≡_, refl, ap}
 use mathlib.Core.List.{List, [], _∷_, _++_}
-use Prim.Native.Nat.{ℕ, zero, suc, _<_, Ordering, Ordering·lt, Ordering·eq, Ordering·gt}
+use Prim.Native.Nat.{ℕ, zero, suc, _≤_, _<_, Ordering, Ordering·lt, Ordering·eq, Ordering·gt}
 use native.Mathlib.Nat.{lt-trans}
 use native.Mathlib.Omega.{arith}
-use lib.ListN.{length, getD}
+use lib.ListN.{length, take, getD}
 use Rattle.words.specs.Words.{_≪_, here, there, _⊑_, done, step, _⊏_, proper, Outcome, compareWords}
 use Rattle.words.specs.orders.Decisions.{Ordered, lt, eq, gt, ordered}
-use Rattle.words.specs.orders.PrefixLaws.{⊑-refl}
+use Rattle.words.specs.orders.PrefixLaws.{⊑-refl, take-⊑-next}
 
 pub ≪-trans : {x y z : List ℕ} → x ≪ y → y ≪ z → x ≪ z
 ≪-trans (here h) (here k) = here (lt-trans h k)
@@ -55,6 +55,10 @@ pub ≪-letters : (k : ℕ) (x y : List ℕ) → k < length x → k < length y �
 ≪-letters zero (a ∷ x) (b ∷ y) p q e h = here h
 ≪-letters (suc k) (a ∷ x) (b ∷ y) p q e h =
     rw (← e 0 (omega arith)) (there (≪-letters k x y (omega arith) (omega arith) (λ t l. e (suc t) (omega arith)) h))
+
+-- the first k letters of w, followed by a letter that is larger than the next one of w
+pub take-≪-larger : (k n : ℕ) (w : List ℕ) {b : ℕ} → k < n → n ≤ length w → getD w k 0 < b → take n w ≪ (take k w ++ b ∷ [])
+take-≪-larger k n w l h x = ≪-extend (≪-under (take k w) (here x)) (take-⊑-next k n w l h) (⊑-refl _)
 
 -- y, which begins with x, is below x ++ b ∷ []: its next letter is below b
 pub ≪-last : {x y : List ℕ} {b : ℕ} → x ⊑ y → y ≪ (x ++ b ∷ []) → (length x < length y) × (getD y (length x) 0 < b)

@@ -14,8 +14,8 @@ use lib.Seq.{take-suc, length-take-le, getD-take, drop-drop, drop-append-le, get
 use Rattle.words.specs.Words.{_≪_, here, _⊑_, InverseLyndon}
 use Rattle.words.specs.Factorizations.{failingLength, borderLength}
 use Rattle.words.specs.orders.Decisions.{neither-less}
-use Rattle.words.specs.orders.PrefixLaws.{⊑-refl, ⊑-both, ⊑-trans, take-⊑-take}
-use Rattle.words.specs.orders.MismatchLaws.{≪-append, ≪-extend, ≪-under}
+use Rattle.words.specs.orders.PrefixLaws.{⊑-refl, ⊑-both, ⊑-trans, take-⊑-take, take-⊑-next}
+use Rattle.words.specs.orders.MismatchLaws.{≪-append, ≪-extend, ≪-under, take-≪-larger}
 use Rattle.words.specs.orders.LexLaws.{_≤ₗ_, lost, pre, ≤ₗ-not-≪}
 use Rattle.words.specs.lyndon.WordTests.{suffix-below}
 use Rattle.words.specs.icfl.Failing.{Failing, failing-unique, Shortest, shortest-is}
@@ -78,20 +78,19 @@ module _ (w : List ℕ) (n : ℕ) (l : n < length w) where
   with-letter : (k : ℕ) → k ≤ n → drop (n - k) (take (suc n) w) ≡ drop (n - k) (take n w) ++ getD w n 0 ∷ []
   with-letter k h = rw (take-suc w n 0 l, drop-append-le (n - k) (take n w) (getD w n 0 ∷ []) (rw (size w n (omega arith)) (omega arith)))
 
-  front-letter : (k : ℕ) → k < n → (take k w ++ getD w k 0 ∷ []) ⊑ take (suc n) w
-  front-letter k h = rw (take-suc w k 0 (omega arith)) at (take-⊑-take (suc k) (suc n) w (omega arith))
-
   above : {k : ℕ} → BorderOf w n k → getD w k 0 < getD w n 0 → take (suc n) w ≪ drop (n - k) (take (suc n) w)
   above {k} b h =
-      rw (with-letter k (omega (arith, b .shorter)), border-word w n (omega arith) b)
-      (≪-extend (≪-under (take k w) (here h)) (front-letter k (b .shorter)) (⊑-refl _))
+      rw (with-letter k (omega (arith, b .shorter)), border-word w n (omega arith) b) (take-≪-larger k (suc n) w (omega (arith, b .shorter)) l h)
 
   not-above : {k : ℕ} → BorderOf w n k → getD w n 0 ≤ getD w k 0 → drop (n - k) (take (suc n) w) ≤ₗ take (suc n) w
   not-above {k} b h = rw (with-letter k (omega (arith, b .shorter)), border-word w n (omega arith) b) (go (decLt (getD w n 0) (getD w k 0)))
     where
+      next : (take k w ++ getD w k 0 ∷ []) ⊑ take (suc n) w
+      next = take-⊑-next k (suc n) w (omega (arith, b .shorter)) l
+
       go : Dec (getD w n 0 < getD w k 0) → (take k w ++ getD w n 0 ∷ []) ≤ₗ take (suc n) w
-      go (yes x) = lost (≪-extend (≪-under (take k w) (here x)) (⊑-refl _) (front-letter k (b .shorter)))
-      go (no x) = pre (rw (let e : getD w n 0 ≡ getD w k 0 = omega arith in e) (front-letter k (b .shorter)))
+      go (yes x) = lost (≪-extend (≪-under (take k w) (here x)) (⊑-refl _) next)
+      go (no x) = pre (rw (let e : getD w n 0 ≡ getD w k 0 = omega arith in e) next)
 
 -- ---- the shortest r
 
