@@ -10,7 +10,7 @@ use native.Mathlib.Omega.{arith}
 use lib.Dec.{eqb}
 use lib.ListN.{length, getD, length-append, List·getD-eq-default}
 use Rattle.words.specs.Factorizations.{icflEnds, cflInEnds}
-use Rattle.words.specs.places.EndsRise.{RisesTo, there, later, rises-few, rises-inside, rises-some, icfl-ends-rise, cfl-in-ends-rise}
+use Rattle.words.specs.places.EndsRise.{Rises, done, more, rises-few, rises-inside, rises-some, icfl-ends-rise, cfl-in-ends-rise}
 use Rattle.checks.proofs.RefusalLaws.{Accepted}
 use Rattle.reading.specs.Summary.{lengthsFrom, greatest, startOf, bandsOf, summaryAs}
 use Rattle.reading.proofs.SummaryLaws.{count-most, bands-length, bands-at}
@@ -48,15 +48,15 @@ refused-most e h = rw (refused-is e, line-length (ascii "refused") (decimal e)) 
 
 -- ---- the summary's numbers
 
-longest-most : {n b : ℕ} {es : List ℕ} → RisesTo n b es → greatest (lengthsFrom b es) ≤ n
+longest-most : {n b : ℕ} {es : List ℕ} → Rises n b es → greatest (lengthsFrom b es) ≤ n
 unfolding greatest lengthsFrom
-longest-most (there z) = omega arith
-longest-most (later {b = b} {e = e} {es = es} h r) = omega (arith, longest-most r, rises-few r)
+longest-most (done z) = omega arith
+longest-most (more {b = b} {e = e} {es = es} h r) = omega (arith, longest-most r, rises-few r)
 
-start-most : (m : ℕ) {n b : ℕ} {es : List ℕ} → RisesTo n b es → startOf m b es ≤ n
+start-most : (m : ℕ) {n b : ℕ} {es : List ℕ} → Rises n b es → startOf m b es ≤ n
 unfolding startOf
-start-most m (there z) = omega arith
-start-most m {n} (later {b = b} {e = e} {es = es} h r) = go (eqb (e - b) m) (start-most m r) (rises-few r)
+start-most m (done z) = omega arith
+start-most m {n} (more {b = b} {e = e} {es = es} h r) = go (eqb (e - b) m) (start-most m r) (rises-few r)
   where
     go : (t : Bool) → startOf m e es ≤ n → e + length es ≤ n → (elim t [ true ↦ b | false ↦ startOf m e es ]) ≤ n
     go true ih f = omega arith
@@ -92,10 +92,10 @@ seven-most w a = lines-most (length w) (icflEnds w) (cflInEnds w) (summaryAs 0 e
     es : List ℕ
     es = icflEnds w
 
-    rise : RisesTo (length w) 0 es
+    rise : Rises (length w) 0 es
     rise = icfl-ends-rise w
 
-    strict-rise : RisesTo (length w) 0 (cflInEnds w)
+    strict-rise : Rises (length w) 0 (cflInEnds w)
     strict-rise = cfl-in-ends-rise w
 
     few : length es ≤ 4096

@@ -6,7 +6,7 @@ use Prim.Native.Nat.{ℕ, zero, suc, _≤_, _<_}
 use native.Mathlib.Omega.{arith}
 use lib.ListN.{length}
 use Rattle.words.specs.Factorizations.{icflEnds, cflInEnds}
-use Rattle.words.specs.places.EndsRise.{RisesTo, there, later, rises-some, icfl-ends-rise}
+use Rattle.words.specs.places.EndsRise.{Rises as RisesTo, done as there, more as later, rises-some, icfl-ends-rise}
 use Rattle.checks.specs.Refusals.{recordRefusal, endsRefusal}
 use Rattle.checks.proofs.RefusalLaws.{record-accepted}
 use Rattle.checks.proofs.EndsLaws.{Rises, done, more, EndsView, valid, invalid, ends-view}

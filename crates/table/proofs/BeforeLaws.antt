@@ -12,7 +12,7 @@ use lib.Dec.{ltb}
 use Rattle.words.specs.Words.{_≺_, mismatch, isInverseBefore}
 use Rattle.words.specs.orders.InverseLaws.{_≼_, won, pre, ≼-antisym, ≺-≼, ≺-irrefl}
 use Rattle.words.specs.orders.Decisions.{Decides, holds, fails, true-decides, false-decides, leb-test}
-use Rattle.words.specs.lyndon.WordTests.{inverse-before-test}
+use Rattle.words.specs.orders.OrderTests.{inverse-before-test}
 use Rattle.table.specs.Steps.{Neighbours}
 use Rattle.words.specs.orders.CommonLength.{Agree, matched-none, matched-more, agree-sym, agree-⊑, agree-shorter, agree-≪, agree-≪-sym}
 

@@ -12,7 +12,7 @@ use lib.Seq.{drop-cons}
 use Rattle.words.specs.Words.{isInverseBefore}
 use Rattle.words.specs.Factorizations.{longestAntiLyndon, lyndonTable}
 use Rattle.words.specs.orders.Decisions.{decides-true, decides-false}
-use Rattle.words.specs.lyndon.WordTests.{inverse-before-test}
+use Rattle.words.specs.orders.OrderTests.{inverse-before-test}
 use Rattle.words.specs.lyndon.AntiLyndonLaws.{longest-is, longest-positive}
 use Rattle.words.specs.table.LyndonTableCflIn.{lyndon-table-length, lyndon-table-at}
 use Rattle.words.specs.table.Merging.{Merged, merged-letter, merged-more, merged-stops, merged-ends}

@@ -2,6 +2,7 @@
 --
 --   name                          paper 01                    source 004           meaning
 --   Words
+--     mostLetters                 4,096                                            the greatest length of a record
 --     _≪_                         loses at a shared byte      section 2            smaller at the first place where both differ
 --     _⊑_, _⊏_                    beginning, proper one       section 2            prefix, proper prefix
 --     _<ₗ_                        natural order               Definition 2.1       lexicographic order

@@ -1,5 +1,5 @@
 -- DEFINITIONS. Words are lists of numbers: how two of them compare, and the two kinds of words that a word is cut into.
--- Orders and kinds are paper 01's sentences; the tests compute, and decide them (WordTests).
+-- Orders and kinds are paper 01's sentences; the tests compute, and decide them (orders/OrderTests, lyndon/WordTests).
 use mathlib.Core.Path.{_≡_}
 use mathlib.Core.List.{List, [], _∷_, _++_}
 use mathlib.Core.Bool.{Bool, true, false}
@@ -8,6 +8,10 @@ use lib.ListN.{length, drop}
 use lib.Seq.{slice}
 use lib.IntN.{ℤ, pos, negsuc}
 use lib.Dec.{eqb}
+
+-- a record's greatest length: "length above 4,096" is refused; no law of words needs a bound
+abbrev pub mostLetters : ℕ
+mostLetters = 4096
 
 infix 40 _≪_ _⊑_ _⊏_ _<ₗ_ _≺_
 -- mismatch order: "the two differ at a place that lies in both, and at the first such place the piece has the smaller byte"

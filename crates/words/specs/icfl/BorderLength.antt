@@ -1,28 +1,28 @@
 -- |r| by letters, as paper 01 has it, is |r| by the order: extension-is says that failingLength, borderLength and prefixLength of a
 -- nonempty word that is not inverse Lyndon give an Extension. That 2|r| + 2 ≤ L is needed only here.
 use mathlib.Core.Path.{_≡_, refl, sym, subst}
-use mathlib.Core.List.{List, [], _∷_, _++_}
+use mathlib.Core.List.{List}
 use Prim.Native.Nat.{ℕ, suc, _+_, _-_, _*_, _≤_, _<_}
 use native.Mathlib.Omega.{arith}
-use lib.ListN.{length, take, drop, getD}
-use lib.Seq.{take-suc, length-take-le, getD-take}
-use lib.ListN.{length-drop}
-use Rattle.words.specs.Words.{_≪_, here, _⊑_, InverseLyndon}
+use lib.ListN.{length, take, drop, getD, length-drop}
+use lib.Seq.{length-take-le, getD-take}
+use Rattle.words.specs.Words.{_≪_, InverseLyndon}
 use Rattle.words.specs.Factorizations.{isBorder, failingLength, borderLength, prefixLength}
-use Rattle.words.specs.orders.PrefixLaws.{⊑-refl, ⊑-trans, ⊑-both, ⊑-whole, take-⊑, take-⊑-take}
-use Rattle.words.specs.orders.MismatchLaws.{≪-extend, ≪-under, ≪-last}
+use Rattle.words.specs.orders.PrefixLaws.{⊑-trans, ⊑-both, ⊑-whole, take-⊑}
+use Rattle.words.specs.orders.MismatchLaws.{take-≪-larger, ≪-last}
 use Rattle.words.specs.orders.LexLaws.{≤ₗ-not-≪}
 use Rattle.words.specs.orders.Decisions.{Decides, decides-and, leb-test, least-unique}
-use Rattle.words.specs.lyndon.WordTests.{same-test}
+use Rattle.words.specs.orders.OrderTests.{same-test}
 use Rattle.words.specs.icfl.Extension.{Extension, extension-below, extension-prefix}
 use Rattle.words.specs.icfl.Failing.{Failing, failing-is, Shortest, shortest-is, suffix-parts, extension-at}
 
-abbrev pub Border : List ℕ → ℕ → ℕ → Type 0
-Border w l k = (2 * k + 2 ≤ l) × ((take k w ≡ take k (drop (l - 1 - k) w)) × (getD w k 0 < getD w (l - 1) 0))
+-- "r a u r b": the first k letters return before the last of l letters, which is larger than the letter after the first k
+abbrev FailingBorder : List ℕ → ℕ → ℕ → Type 0
+FailingBorder w l k = (2 * k + 2 ≤ l) × ((take k w ≡ take k (drop (l - 1 - k) w)) × (getD w k 0 < getD w (l - 1) 0))
 
-pub border-test : (w : List ℕ) (l k : ℕ) → Decides (Border w l k) (isBorder w l k)
+failing-border-test : (w : List ℕ) (l k : ℕ) → Decides (FailingBorder w l k) (isBorder w l k)
 unfolding isBorder
-border-test w l k = decides-and (leb-test _ _) (decides-and (same-test _ _) (leb-test _ _))
+failing-border-test w l k = decides-and (leb-test _ _) (decides-and (same-test _ _) (leb-test _ _))
 
 module _ (w : List ℕ) (p r : ℕ) (x : Failing w (suc (p + r))) where
   place-p : suc (p + r) - 1 - r ≡ p
@@ -32,16 +32,15 @@ module _ (w : List ℕ) (p r : ℕ) (x : Failing w (suc (p + r))) where
   place-b = omega arith
 
   -- by letters, so by the order
-  border-above : Border w (suc (p + r)) r → take (suc (p + r)) w ≪ drop p (take (suc (p + r)) w)
-  border-above k =
+  failing-border-above : FailingBorder w (suc (p + r)) r → take (suc (p + r)) w ≪ drop p (take (suc (p + r)) w)
+  failing-border-above k =
       let e : take r w ≡ take r (drop p w) = rw place-p at (k .1 .0) in
       let h : getD w r 0 < getD w (p + r) 0 = rw place-b at (k .1 .1) in
-      let f : (take r w ++ getD w r 0 ∷ []) ⊑ take (suc (p + r)) w = rw (take-suc w r 0 (omega (arith, x .inside))) at (take-⊑-take (suc r) (suc (p + r)) w (omega arith)) in
-      rw (suffix-parts w p r x, ← e) (≪-extend (≪-under (take r w) (here h)) f (⊑-refl _))
+      rw (suffix-parts w p r x, ← e) (take-≪-larger r (suc (p + r)) w (omega arith) (x .inside) h)
 
   -- by the order, and shortest, so by letters
-  shortest-border : Shortest (take (suc (p + r)) w) r → Border w (suc (p + r)) r
-  shortest-border y =
+  shortest-failing-border : Shortest (take (suc (p + r)) w) r → FailingBorder w (suc (p + r)) r
+  shortest-failing-border y =
       let k : Extension w (take p w) (take r (drop p w)) (getD w (p + r) 0) (drop (suc (p + r)) w) = extension-at w p r x y in
       let size-p : length (take p w) ≡ p = length-take-le p w (omega (arith, x .inside)) in
       let size-r : length (take r (drop p w)) ≡ r = length-take-le r (drop p w) (rw length-drop (omega (arith, x .inside))) in
@@ -60,16 +59,17 @@ module _ (w : List ℕ) (l r : ℕ) (x : Failing w l) (b : r < l) where
   failing-parts : Failing w (suc (l - 1 - r + r))
   failing-parts = subst (λ (n : ℕ). Failing w n) (sym parts) x
 
-  by-order : Border w l r → take l w ≪ drop (l - 1 - r) (take l w)
-  by-order k = rw parts at (border-above w (l - 1 - r) r failing-parts (subst (λ (n : ℕ). Border w n r) (sym parts) k))
+  by-order : FailingBorder w l r → take l w ≪ drop (l - 1 - r) (take l w)
+  by-order k = rw parts at (failing-border-above w (l - 1 - r) r failing-parts (subst (λ (n : ℕ). FailingBorder w n r) (sym parts) k))
 
-  by-letters : Shortest (take l w) r → Border w l r
-  by-letters y = rw parts at (shortest-border w (l - 1 - r) r failing-parts (subst (λ (n : ℕ). Shortest (take n w) r) (sym parts) y))
+  by-letters : Shortest (take l w) r → FailingBorder w l r
+  by-letters y = rw parts at (shortest-failing-border w (l - 1 - r) r failing-parts (subst (λ (n : ℕ). Shortest (take n w) r) (sym parts) y))
 
 -- the shortest by the order is the least by letters
 pub border-least : (w : List ℕ) (r : ℕ) → Failing w (failingLength w) → Shortest (take (failingLength w) w) r → borderLength w ≡ r
 unfolding borderLength
-border-least w r x y = least-unique (λ k. Border w l k) (λ k. isBorder w l k) (border-test w l) l 0 r (by-letters w l r x b y) (omega arith) (omega (arith, b))
+border-least w r x y = least-unique (λ k. FailingBorder w l k) (λ k. isBorder w l k) (failing-border-test w l) l 0 r
+    (by-letters w l r x b y) (omega arith) (omega (arith, b))
     (λ j a c k. ≤ₗ-not-≪ (y .shorter (l - 1 - j) (omega (arith, n, b))) (by-order w l j x (omega (arith, b)) k))
   where
     l : ℕ

@@ -3,7 +3,6 @@
 --   Shortest u r         the last r + 1 letters of u are its shortest suffix with u ≪ it
 --   extension-at         p and r letters so found are an Extension
 use mathlib.Core.Path.{_≡_, ap, sym, _∙_}
-use mathlib.Core.Logic.{_⊎_, inl, inr}
 use mathlib.Core.List.{List, [], _∷_, _++_, append-assoc}
 use mathlib.Core.Bool.{Bool, not}
 use Prim.Native.Nat.{ℕ, zero, suc, _+_, _-_, _≤_, _<_}
@@ -14,10 +13,11 @@ use lib.Seq.{drop-drop, drop-cons, drop-at, take-add, take-suc, take-length, len
 use Rattle.words.specs.Words.{_≪_, done, proper, _<ₗ_, prefix, mismatch, InverseLyndon, isLexLess, isInverseLyndon}
 use Rattle.words.specs.Factorizations.{failingLength}
 use Rattle.words.specs.orders.PrefixLaws.{take-⊑}
-use Rattle.words.specs.orders.LexLaws.{_≤ₗ_, pre, ≤ₗ-refl, ≤ₗ-≪-trans, <ₗ-≤ₗ, <ₗ-total}
+use Rattle.words.specs.orders.LexLaws.{_≤ₗ_, pre, ≤ₗ-refl, ≤ₗ-≪-trans, not-<ₗ-≤ₗ}
 use Rattle.words.specs.orders.MismatchLaws.{≪-asym}
 use Rattle.words.specs.orders.Decisions.{Decides, holds, fails, decides-not, Least, found, never, least-is, least-unique}
-use Rattle.words.specs.lyndon.WordTests.{lex-less-test, inverse-lyndon, inverse-lyndon-test}
+use Rattle.words.specs.orders.OrderTests.{lex-less-test}
+use Rattle.words.specs.lyndon.WordTests.{inverse-lyndon, inverse-lyndon-test}
 use Rattle.words.specs.icfl.Extension.{Extension, prefix-inverse-lyndon}
 
 -- ---- the shortest failing prefix
@@ -74,18 +74,13 @@ shortest-is u s n = go (least-is (λ r. u <ₗ lastLetters u r) (λ r. isLexLess
     above r (mismatch h) = h
     above r (prefix (proper h l)) = absurd (omega (arith, simp length-drop at l))
 
-    at-most : (x : List ℕ) → ¬ (u <ₗ x) → (u <ₗ x) ⊎ ((u ≡ x) ⊎ (x <ₗ u)) → x ≤ₗ u
-    at-most x h (inl k) = absurd (h k)
-    at-most x h (inr (inl e)) = rw e (≤ₗ-refl x)
-    at-most x h (inr (inr k)) = <ₗ-≤ₗ k
-
     below : (m : ℕ) → ((j : ℕ) → 0 ≤ j → j < m → ¬ (u <ₗ lastLetters u j)) → (k : ℕ) → length u ≤ k + m → drop k u ≤ₗ u
     below m h k l = near (decLt k (length u))
       where
         near : Dec (k < length u) → drop k u ≤ₗ u
         near (yes b) =
             let e : length u - suc (length u - suc k) ≡ k = omega arith in
-            at-most (drop k u) (rw e at (h (length u - suc k) (omega arith) (omega arith))) (<ₗ-total u (drop k u))
+            not-<ₗ-≤ₗ u (drop k u) (rw e at (h (length u - suc k) (omega arith) (omega arith)))
         near (no b) = rw (drop-of-length-le u {i = k} (omega arith)) (pre done)
 
     go : {m : ℕ} → Least (λ r. u <ₗ lastLetters u r) (length u) 0 m → (r : ℕ) × Shortest u r
@@ -118,13 +113,9 @@ module _ (w : List ℕ) (p r : ℕ) (x : Failing w (suc (p + r))) where
     start = omega (arith, length-take-le (suc (p + r)) w (x .inside))
 
     positive : 0 < p + r
-    positive = near (decLt 0 (p + r))
-      where
-        near : Dec (0 < p + r) → 0 < p + r
-        near (yes h) = h
-        near (no h) =
-            let e : length (take (suc (p + r)) w) - suc r ≡ 0 = omega (arith, start) in
-            absurd (≪-asym (rw e at (y .above)) (rw e at (y .above)))
+    positive =
+        let n : ¬ (p ≡ 0) = λ z. let above = rw (start, z) at (y .above) in ≪-asym above above in
+        omega arith
 
     pub extension-at : Extension w (take p w) (take r (drop p w)) (getD w (p + r) 0) (drop (suc (p + r)) w)
     extension-at = record {

@@ -7,29 +7,23 @@ use Prim.Native.Nat.{ℕ, zero, suc, _≤_, _<_}
 use native.Mathlib.Omega.{arith}
 use native.Mathlib.Nat.{le-refl}
 use native.Mathlib.Decide.{decLt}
-use lib.ListN.{length, take, drop, length-append, drop-of-length-le}
-use Rattle.words.specs.Words.{_≪_, done, _≺_, proper, prefix, mismatch, InverseLyndon, AntiLyndon}
+use lib.ListN.{length, take, drop, length-append}
+use Rattle.words.specs.Words.{_≪_, _<ₗ_, _≺_, proper, prefix, mismatch, InverseLyndon, AntiLyndon}
 use Rattle.words.specs.Factorizations.{longestWithin, longestAntiLyndon}
 use Rattle.words.specs.orders.PrefixLaws.{⊑-refl, ⊑-append, ⊑-split, ⊑-whole}
-use Rattle.words.specs.orders.MismatchLaws.{≪-trans, ≪-append, ≪-extend, ≪-under, Compared, less, greater, within, beyond, compared, Tri, lt, eq, gt, tri}
-use Rattle.words.specs.orders.LexLaws.{_≤ₗ_, lost, ≤ₗ-refl}
-use Rattle.words.specs.orders.InverseLaws.{_≼_, won, pre, ≼-refl, ≺-≼}
+use Rattle.words.specs.orders.MismatchLaws.{≪-trans, ≪-append, ≪-extend, ≪-under}
+use Rattle.words.specs.orders.InverseLaws.{_≼_, won, pre, ≼-refl, ≺-≼, not-≺-≼}
 use Rattle.words.specs.Statements.{EqualOrAfter}
-use Rattle.words.specs.orders.Decisions.{Decides, holds, fails}
-use Rattle.words.specs.lyndon.WordTests.{inverse-lyndon, suffix-loses, anti-lyndon, anti-lyndon-test}
-use Rattle.words.specs.lyndon.Suffixes.{Begins, first, second, begins}
+use Rattle.words.specs.orders.Decisions.{Decides, holds, fails, neither-less}
+use Rattle.words.specs.lyndon.WordTests.{suffix-loses, anti-lyndon, anti-lyndon-test}
+use Rattle.words.specs.lyndon.Suffixes.{Begins, first, second, begins, by-parts}
 
 pub letter-anti-lyndon : (a : ℕ) → AntiLyndon (a ∷ [])
 letter-anti-lyndon a = anti-lyndon (omega arith) (λ i p l. absurd (omega arith))
 
 -- "Every strict word is falling"
 pub anti-inverse-lyndon : {w : List ℕ} → AntiLyndon w → InverseLyndon w
-anti-inverse-lyndon {w} k = inverse-lyndon (k .nonempty) (λ i. go i (decLt 0 i) (decLt i (length w)))
-  where
-    go : (i : ℕ) → Dec (0 < i) → Dec (i < length w) → drop i w ≤ₗ w
-    go i (no a) d = rw (let z : i ≡ 0 = omega arith in z) (≤ₗ-refl w)
-    go i (yes a) (no b) = rw (drop-of-length-le w {i = i} (omega arith)) (_≤ₗ_.pre done)
-    go i (yes a) (yes b) = lost (suffix-loses k i a b)
+anti-inverse-lyndon {w} k = record { nonempty = k .nonempty; exceeds = by-parts (λ s. s <ₗ w) w 1 (λ i p l. mismatch (suffix-loses k i p l)) }
 
 -- ---- products
 
@@ -52,13 +46,7 @@ append-anti-lyndon {u} {v} s t (prefix (proper h l)) =
 
 -- else the second is not after the first
 pub not-append : {u v : List ℕ} → AntiLyndon u → AntiLyndon v → ¬ AntiLyndon (u ++ v) → v ≼ u
-not-append {u} {v} s t n = go (compared v u)
-  where
-    go : Compared v u → v ≼ u
-    go (less h) = absurd (n (append-anti-lyndon s t (mismatch h)))
-    go (greater h) = won h
-    go (within h) = pre h
-    go (beyond h l) = absurd (n (append-anti-lyndon s t (prefix (proper h l))))
+not-append {u} {v} s t n = not-≺-≼ u v (λ h. n (append-anti-lyndon s t h))
 
 pub ≼-equal-or-after : {l m : List ℕ} → m ≼ l → EqualOrAfter l m
 ≼-equal-or-after (won h) = inr (mismatch h)
@@ -84,7 +72,8 @@ unfolding longestWithin
 within-longest zero w = record { upto = le-refl _; word = λ h. absurd (omega arith); longer = λ j h l. absurd (omega arith) }
 within-longest (suc k) w = go (anti-lyndon-test (take (suc k) w)) (within-longest k w)
   where
-    go : {t : Bool} → Decides (AntiLyndon (take (suc k) w)) t → Longest w k (longestWithin k w) → Longest w (suc k) (elim t [ true ↦ suc k | false ↦ longestWithin k w ])
+    go : {t : Bool} → Decides (AntiLyndon (take (suc k) w)) t → Longest w k (longestWithin k w)
+        → Longest w (suc k) (elim t [ true ↦ suc k | false ↦ longestWithin k w ])
     go (holds s) v = record { upto = le-refl _; word = λ h. s; longer = λ j h l. absurd (omega arith) }
     go (fails s) v = record { upto = omega arith; word = v .word; longer = λ j h l. near j h l (decLt k j) }
       where
@@ -98,19 +87,12 @@ longest-is w = within-longest (length w) w
 
 pub longest-positive : (w : List ℕ) → 0 < length w → 0 < longestAntiLyndon w
 longest-positive [] l = absurd (omega arith)
-longest-positive (a ∷ w) l = go (decLt 0 (longestAntiLyndon (a ∷ w))) (longest-is (a ∷ w))
-  where
-    go : Dec (0 < longestAntiLyndon (a ∷ w)) → Longest (a ∷ w) (length (a ∷ w)) (longestAntiLyndon (a ∷ w)) → 0 < longestAntiLyndon (a ∷ w)
-    go (yes h) v = h
-    go (no h) v = absurd (v .longer 1 (omega arith) (omega arith) (letter-anti-lyndon a))
+longest-positive (a ∷ w) l =
+    let n : ¬ (longestAntiLyndon (a ∷ w) < 1) = λ h. longest-is (a ∷ w) .longer 1 h (omega arith) (letter-anti-lyndon a) in
+    omega arith
 
 pub longest-unique : (w : List ℕ) (n : ℕ) → 0 < n → Longest w (length w) n → longestAntiLyndon w ≡ n
 longest-unique w n p h = go (longest-is w)
   where
     go : {m : ℕ} → Longest w (length w) m → m ≡ n
-    go {m} v = near (tri m n)
-      where
-        near : Tri m n → m ≡ n
-        near (lt x) = absurd (v .longer n x (h .upto) (h .word p))
-        near (eq x) = x
-        near (gt x) = absurd (h .longer m x (v .upto) (v .word (omega arith)))
+    go {m} v = neither-less (λ x. v .longer n x (h .upto) (h .word p)) (λ x. h .longer m x (v .upto) (v .word (omega arith)))

@@ -5,13 +5,13 @@
 use mathlib.Core.Path.{_≡_, refl, ap, _∙_}
 use mathlib.Core.Logic.{_⊎_, inl, inr}
 use mathlib.Core.List.{List, [], _∷_, _++_, head-eq-of-cons-eq, tail-eq-of-cons-eq}
-use Prim.Native.Nat.{ℕ, _+_, _-_, _<_}
+use Prim.Native.Nat.{ℕ, _+_, _-_, _≤_, _<_, zero-le}
 use native.Mathlib.Omega.{arith}
 use native.Mathlib.Decide.{decLt}
 use lib.ListN.{length, take, drop, length-append, length-drop, take-append-drop}
-use lib.Seq.{drop-append-add, drop-append-le, drop-append-seam}
-use Rattle.words.specs.Words.{_≪_, _⊑_, done, step}
-use Rattle.words.specs.Statements.{DominatedBy, Next, end, by}
+use lib.Seq.{drop-append-add, drop-append-le, drop-append-seam, length-take-le}
+use Rattle.words.specs.Words.{_≪_, _⊑_, done, step, InverseLyndon}
+use Rattle.words.specs.Statements.{DominatedBy, Next, end, by, Linked}
 
 pub data Begins (m s : List ℕ) (j : ℕ) : Type 0 where
   first : j < length m → drop j (m ++ s) ≡ drop j m ++ s → Begins m s j
@@ -42,15 +42,28 @@ overlap (a ∷ x) (b ∷ y) {u} {v} e = go (overlap x y (tail-eq-of-cons-eq e))
     go (inl p) = inl (rw (head-eq-of-cons-eq e) (step p))
     go (inr q) = inr (record { over = q .over; nonempty = q .nonempty; is = cc (head-eq-of-cons-eq e, q .is); rest = q .rest })
 
+-- ---- a statement on the nonempty suffixes from place n on, by parts and by places
+
+pub by-parts : (P : List ℕ → Type 0) (w : List ℕ) (n : ℕ) → ((i : ℕ) → n ≤ i → i < length w → P (drop i w))
+    → (u s : List ℕ) → u ++ s ≡ w → n ≤ length u → 0 < length s → P s
+by-parts P w n f u s e p q =
+    let z : drop (length u) w ≡ s = rw (← e) (drop-append-seam u s) in
+    rw z at (f (length u) p (omega (arith, simp length-append at (ap length e))))
+
+pub by-places : (P : List ℕ → Type 0) (w : List ℕ) (n : ℕ) → ((u s : List ℕ) → u ++ s ≡ w → n ≤ length u → 0 < length s → P s)
+    → (i : ℕ) → n ≤ i → i < length w → P (drop i w)
+by-places P w n f i p l = f (take i w) (drop i w) (take-append-drop i w) (rw (length-take-le i w (omega arith)) p) (rw length-drop (omega arith))
+
 -- ---- domination
 
+abbrev pub Dominated : List (List ℕ) → Type 0
+Dominated ms = Linked InverseLyndon DominatedBy ms
+
 pub dominated-at : {m n : List ℕ} → DominatedBy m n → (i : ℕ) → i < length m → drop i m ≪ n
-dominated-at {m} d i l = d (take i m) (drop i m) (take-append-drop i m) (rw length-drop (omega arith))
+dominated-at {m} {n} d i l = by-places (λ s. s ≪ n) m 0 (λ u s e p. d u s e) i zero-le l
 
 pub dominated : {m n : List ℕ} → ((i : ℕ) → i < length m → drop i m ≪ n) → DominatedBy m n
-dominated {m} {n} f u s e l =
-    let z : drop (length u) m ≡ s = rw (← e) (drop-append-seam u s) in
-    rw z at (f (length u) (omega (arith, simp length-append at (ap length e))))
+dominated {m} {n} f u s e l = by-parts (λ s. s ≪ n) m 0 (λ i p. f i) u s e zero-le l
 
 -- a suffix of a dominated word is dominated
 pub next-suffix : (s : List ℕ) {t : List ℕ} {ns : List (List ℕ)} → Next DominatedBy (s ++ t) ns → Next DominatedBy t ns

@@ -1,86 +1,17 @@
--- The tests of Words decide what they are named for: inverse-lyndon-test, anti-lyndon-test. On the way, the two kinds of words by
+-- The tests of the two kinds of words decide: inverse-lyndon-test, anti-lyndon-test. On the way, the two kinds of words by
 -- places, the suffixes being drop i w: suffix-below and inverse-lyndon, suffix-loses and anti-lyndon.
-use mathlib.Core.Path.{_≡_, refl, ap}
+use mathlib.Core.Path.{_≡_}
 use mathlib.Core.List.{List, [], _∷_, _++_}
 use mathlib.Core.Bool.{Bool, true, false}
-use Prim.Native.Nat.{ℕ, zero, suc, _<_, Ordering, Ordering·lt, Ordering·eq, Ordering·gt}
+use Prim.Native.Nat.{ℕ, zero, suc, _<_}
 use native.Mathlib.Omega.{arith}
 use native.Mathlib.Decide.{decLt}
-use lib.ListN.{length, take, drop, length-append, length-drop, take-append-drop, drop-of-length-le}
-use lib.Seq.{drop-append-seam, length-take-le}
-use Rattle.words.specs.Words.{_≪_, here, there, done, step, _⊏_, proper, _<ₗ_, _≺_, prefix, mismatch, InverseLyndon, AntiLyndon}
-use Rattle.words.specs.Words.{Outcome, compareWords, isLexLess, isInverseBefore, isSame, everySuffix, isInverseLyndon, isAntiLyndon}
-use Rattle.words.specs.orders.MismatchLaws.{≪-asym}
-use Rattle.words.specs.orders.LexLaws.{_≤ₗ_, lost, pre, ≤ₗ-refl, <ₗ-≤ₗ, <ₗ-irrefl, <ₗ-trans}
-use Rattle.words.specs.orders.InverseLaws.{≺-irrefl, ≺-trans}
-use Rattle.words.specs.orders.Decisions.{Decides, holds, fails, decides-map, Ordered, lt, eq, gt, ordered}
-
--- ---- two words
-
-pub data Found (x y : List ℕ) : Outcome → Type 0 where
-  less : x ≪ y → Found x y Outcome.less
-  greater : y ≪ x → Found x y Outcome.greater
-  same : x ≡ y → Found x y Outcome.same
-  shorter : x ⊏ y → Found x y Outcome.shorter
-  longer : y ⊏ x → Found x y Outcome.longer
-
-pub found : (x y : List ℕ) → Found x y (compareWords x y)
-unfolding compareWords
-found [] [] = same refl
-found [] (b ∷ y) = shorter (proper done (omega arith))
-found (a ∷ x) [] = longer (proper done (omega arith))
-found (a ∷ x) (b ∷ y) = go (ordered a b) (found x y)
-  where
-    under : {o : Outcome} → Found x y o → Found (a ∷ x) (a ∷ y) o
-    under (less h) = less (there h)
-    under (greater h) = greater (there h)
-    under (same e) = same (ap (λ (t : List ℕ). a ∷ t) e)
-    under (shorter (proper h l)) = shorter (proper (step h) (omega arith))
-    under (longer (proper h l)) = longer (proper (step h) (omega arith))
-
-    go : {o : Ordering} → Ordered a b o → Found x y (compareWords x y)
-        → Found (a ∷ x) (b ∷ y) (elim o [ Ordering·lt ↦ Outcome.less | Ordering·eq ↦ compareWords x y | Ordering·gt ↦ Outcome.greater ])
-    go (lt h) f = less (here h)
-    go (eq e) f = rw (← e) (under f)
-    go (gt h) f = greater (here h)
-
-pub lex-less-test : (x y : List ℕ) → Decides (x <ₗ y) (isLexLess x y)
-unfolding isLexLess
-lex-less-test x y = go (found x y)
-  where
-    go : {o : Outcome} → Found x y o
-        → Decides (x <ₗ y) (elim o [ Outcome.less ↦ true | Outcome.greater ↦ false | Outcome.same ↦ false | Outcome.shorter ↦ true | Outcome.longer ↦ false ])
-    go (less h) = holds (mismatch h)
-    go (shorter h) = holds (prefix h)
-    go (greater h) = fails (λ k. <ₗ-irrefl (<ₗ-trans k (mismatch h)))
-    go (same e) = fails (λ k. <ₗ-irrefl (rw e at k))
-    go (longer h) = fails (λ k. <ₗ-irrefl (<ₗ-trans k (prefix h)))
-
-pub inverse-before-test : (x y : List ℕ) → Decides (x ≺ y) (isInverseBefore x y)
-unfolding isInverseBefore
-inverse-before-test x y = go (found x y)
-  where
-    go : {o : Outcome} → Found x y o
-        → Decides (x ≺ y) (elim o [ Outcome.less ↦ false | Outcome.greater ↦ true | Outcome.same ↦ false | Outcome.shorter ↦ true | Outcome.longer ↦ false ])
-    go (greater h) = holds (mismatch h)
-    go (shorter h) = holds (prefix h)
-    go (less h) = fails (λ k. ≺-irrefl (≺-trans k (mismatch h)))
-    go (same e) = fails (λ k. ≺-irrefl (rw e at k))
-    go (longer h) = fails (λ k. ≺-irrefl (≺-trans k (prefix h)))
-
-pub same-test : (x y : List ℕ) → Decides (x ≡ y) (isSame x y)
-unfolding isSame
-same-test x y = go (found x y)
-  where
-    go : {o : Outcome} → Found x y o
-        → Decides (x ≡ y) (elim o [ Outcome.less ↦ false | Outcome.greater ↦ false | Outcome.same ↦ true | Outcome.shorter ↦ false | Outcome.longer ↦ false ])
-    go (same e) = holds e
-    go (less h) = fails (λ e. ≪-asym (rw e at h) (rw e at h))
-    go (greater h) = fails (λ e. ≪-asym (rw e at h) (rw e at h))
-    go (shorter (proper h l)) = fails (λ e. omega (arith, ap length e))
-    go (longer (proper h l)) = fails (λ e. omega (arith, ap length e))
-
--- ---- every suffix
+use lib.ListN.{length, drop, length-drop, drop-of-length-le}
+use Rattle.words.specs.Words.{_≪_, done, proper, _<ₗ_, _≺_, prefix, mismatch, InverseLyndon, AntiLyndon, isLexLess, isInverseBefore, everySuffix, isInverseLyndon, isAntiLyndon}
+use Rattle.words.specs.orders.LexLaws.{_≤ₗ_, lost, pre, ≤ₗ-refl, <ₗ-≤ₗ}
+use Rattle.words.specs.orders.OrderTests.{lex-less-test, inverse-before-test}
+use Rattle.words.specs.lyndon.Suffixes.{by-parts, by-places}
+use Rattle.words.specs.orders.Decisions.{Decides, holds, fails, decides-map}
 
 pub every-suffix-test : (P : List ℕ → Type 0) (test : List ℕ → Bool) → ((s : List ℕ) → Decides (P s) (test s)) → (v : List ℕ)
     → Decides ((i : ℕ) → i < length v → P (drop i v)) (everySuffix test v)
@@ -97,14 +28,12 @@ every-suffix-test P test d (a ∷ v) = go (d (a ∷ v)) (every-suffix-test P tes
     go (holds p) e = rest p e
     go (fails n) e = fails (λ f. n (f 0 (omega arith)))
 
--- a statement on every nonempty proper suffix, by parts and by places
-by-parts : (P : List ℕ → Type 0) (w : List ℕ) → ((i : ℕ) → 0 < i → i < length w → P (drop i w)) → (u s : List ℕ) → u ++ s ≡ w → 0 < length u → 0 < length s → P s
-by-parts P w f u s e p q =
-    let z : drop (length u) w ≡ s = rw (← e) (drop-append-seam u s) in
-    rw z at (f (length u) p (omega (arith, simp length-append at (ap length e))))
-
-by-places : (P : List ℕ → Type 0) (w : List ℕ) → ((u s : List ℕ) → u ++ s ≡ w → 0 < length u → 0 < length s → P s) → (i : ℕ) → 0 < i → i < length w → P (drop i w)
-by-places P w f i p l = f (take i w) (drop i w) (take-append-drop i w) (rw (length-take-le i w (omega arith)) p) (rw length-drop (omega arith))
+proper-suffix-test : (P : List ℕ → Type 0) (test : List ℕ → Bool) → ((s : List ℕ) → Decides (P s) (test s)) → (a : ℕ) (v : List ℕ)
+    → Decides ((u s : List ℕ) → u ++ s ≡ a ∷ v → 0 < length u → 0 < length s → P s) (everySuffix test v)
+proper-suffix-test P test d a v = decides-map
+    (λ f. by-parts P (a ∷ v) 1 (λ i. elim i [ zero ↦ λ p l. absurd (omega arith) | suc j ↦ λ p l. f j (omega arith) ]))
+    (λ f i l. by-places P (a ∷ v) 1 f (suc i) (omega arith) (omega arith))
+    (every-suffix-test P test d v)
 
 -- ---- inverse Lyndon words
 
@@ -114,10 +43,10 @@ suffix-below {w} k i = go (decLt 0 i) (decLt i (length w))
     go : Dec (0 < i) → Dec (i < length w) → drop i w ≤ₗ w
     go (no p) d = rw (let z : i ≡ 0 = omega arith in z) (≤ₗ-refl w)
     go (yes p) (no l) = rw (drop-of-length-le w {i = i} (omega arith)) (pre done)
-    go (yes p) (yes l) = <ₗ-≤ₗ (by-places (λ s. s <ₗ w) w (k .exceeds) i p l)
+    go (yes p) (yes l) = <ₗ-≤ₗ (by-places (λ s. s <ₗ w) w 1 (k .exceeds) i p l)
 
 pub inverse-lyndon : {w : List ℕ} → 0 < length w → ((i : ℕ) → drop i w ≤ₗ w) → InverseLyndon w
-inverse-lyndon {w} p f = record { nonempty = p; exceeds = by-parts (λ s. s <ₗ w) w (λ i q l. go i q l (f i)) }
+inverse-lyndon {w} p f = record { nonempty = p; exceeds = by-parts (λ s. s <ₗ w) w 1 (λ i q l. go i q l (f i)) }
   where
     go : (i : ℕ) → 0 < i → i < length w → drop i w ≤ₗ w → drop i w <ₗ w
     go i q l (lost h) = mismatch h
@@ -126,33 +55,23 @@ inverse-lyndon {w} p f = record { nonempty = p; exceeds = by-parts (λ s. s <ₗ
 pub inverse-lyndon-test : (w : List ℕ) → Decides (InverseLyndon w) (isInverseLyndon w)
 unfolding isInverseLyndon
 inverse-lyndon-test [] = fails (λ k. omega (arith, k .nonempty))
-inverse-lyndon-test (a ∷ v) = decides-map to from (every-suffix-test (λ s. s <ₗ (a ∷ v)) (λ s. isLexLess s (a ∷ v)) (λ s. lex-less-test s (a ∷ v)) v)
-  where
-    to : ((i : ℕ) → i < length v → drop i v <ₗ (a ∷ v)) → InverseLyndon (a ∷ v)
-    to f = record { nonempty = omega arith; exceeds = by-parts (λ s. s <ₗ (a ∷ v)) (a ∷ v) (λ i. elim i [ zero ↦ λ p l. absurd (omega arith) | suc j ↦ λ p l. f j (omega arith) ]) }
-
-    from : InverseLyndon (a ∷ v) → (i : ℕ) → i < length v → drop i v <ₗ (a ∷ v)
-    from k i l = by-places (λ s. s <ₗ (a ∷ v)) (a ∷ v) (k .exceeds) (suc i) (omega arith) (omega arith)
+inverse-lyndon-test (a ∷ v) = decides-map (λ f. record { nonempty = omega arith; exceeds = f }) (λ k. k .exceeds)
+    (proper-suffix-test (λ s. s <ₗ (a ∷ v)) (λ s. isLexLess s (a ∷ v)) (λ s. lex-less-test s (a ∷ v)) a v)
 
 -- ---- anti-Lyndon words (source 004, Proposition 7.4: a nonempty proper suffix of an anti-Lyndon word is below it by a mismatch)
 
 pub suffix-loses : {w : List ℕ} → AntiLyndon w → (i : ℕ) → 0 < i → i < length w → drop i w ≪ w
-suffix-loses {w} k i p l = go (by-places (λ s. w ≺ s) w (k .precedes) i p l)
+suffix-loses {w} k i p l = go (by-places (λ s. w ≺ s) w 1 (k .precedes) i p l)
   where
     go : w ≺ drop i w → drop i w ≪ w
     go (mismatch h) = h
     go (prefix (proper h m)) = absurd (omega (arith, simp length-drop at m))
 
 pub anti-lyndon : {w : List ℕ} → 0 < length w → ((i : ℕ) → 0 < i → i < length w → drop i w ≪ w) → AntiLyndon w
-anti-lyndon {w} p f = record { nonempty = p; precedes = by-parts (λ s. w ≺ s) w (λ i q l. mismatch (f i q l)) }
+anti-lyndon {w} p f = record { nonempty = p; precedes = by-parts (λ s. w ≺ s) w 1 (λ i q l. mismatch (f i q l)) }
 
 pub anti-lyndon-test : (w : List ℕ) → Decides (AntiLyndon w) (isAntiLyndon w)
 unfolding isAntiLyndon
 anti-lyndon-test [] = fails (λ k. omega (arith, k .nonempty))
-anti-lyndon-test (a ∷ v) = decides-map to from (every-suffix-test (λ s. (a ∷ v) ≺ s) (λ s. isInverseBefore (a ∷ v) s) (λ s. inverse-before-test (a ∷ v) s) v)
-  where
-    to : ((i : ℕ) → i < length v → (a ∷ v) ≺ drop i v) → AntiLyndon (a ∷ v)
-    to f = record { nonempty = omega arith; precedes = by-parts (λ s. (a ∷ v) ≺ s) (a ∷ v) (λ i. elim i [ zero ↦ λ p l. absurd (omega arith) | suc j ↦ λ p l. f j (omega arith) ]) }
-
-    from : AntiLyndon (a ∷ v) → (i : ℕ) → i < length v → (a ∷ v) ≺ drop i v
-    from k i l = by-places (λ s. (a ∷ v) ≺ s) (a ∷ v) (k .precedes) (suc i) (omega arith) (omega arith)
+anti-lyndon-test (a ∷ v) = decides-map (λ f. record { nonempty = omega arith; precedes = f }) (λ k. k .precedes)
+    (proper-suffix-test (λ s. (a ∷ v) ≺ s) (λ s. isInverseBefore (a ∷ v) s) (λ s. inverse-before-test (a ∷ v) s) a v)

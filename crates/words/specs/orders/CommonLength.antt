@@ -5,11 +5,12 @@ use mathlib.Core.List.{List, [], _∷_}
 use mathlib.Core.Bool.{Bool, true, false}
 use Prim.Native.Nat.{ℕ, zero, suc, _+_, _≤_, _<_, zero-le}
 use native.Mathlib.Omega.{arith}
+use native.Mathlib.Decide.{decLt}
 use lib.ListN.{length, getD}
 use Rattle.words.specs.Words.{_≪_, _⊑_, _≺_, proper, prefix, commonLength}
 use Rattle.words.specs.orders.PrefixLaws.{⊑-letters, ⊑-whole}
-use Rattle.words.specs.orders.MismatchLaws.{≪-letters, Tri, lt, eq, gt, tri}
-use Rattle.words.specs.orders.Decisions.{Decides, holds, fails, eqb-test}
+use Rattle.words.specs.orders.MismatchLaws.{≪-letters}
+use Rattle.words.specs.orders.Decisions.{Decides, holds, fails, neither-less, eqb-test}
 
 -- both words have l letters, and these are equal
 pub record Matched (x y : List ℕ) (l : ℕ) : Type 0 where
@@ -26,12 +27,11 @@ pub matched-none : (x y : List ℕ) → Matched x y 0
 matched-none x y = record { left = zero-le; right = zero-le; equal = λ t h. absurd (omega arith) }
 
 pub matched-more : (x y : List ℕ) (l : ℕ) → Matched x y l → l < length x → l < length y → getD x l 0 ≡ getD y l 0 → Matched x y (l + 1)
-matched-more x y l g h k e = record { left = omega arith; right = omega arith; equal = λ t b. go t b (tri t l) }
+matched-more x y l g h k e = record { left = omega arith; right = omega arith; equal = λ t b. go t b (decLt t l) }
   where
-    go : (t : ℕ) → t < l + 1 → Tri t l → getD x t 0 ≡ getD y t 0
-    go t b (lt c) = g .equal t c
-    go t b (eq c) = rw c e
-    go t b (gt c) = absurd (omega arith)
+    go : (t : ℕ) → t < l + 1 → Dec (t < l) → getD x t 0 ≡ getD y t 0
+    go t b (yes c) = g .equal t c
+    go t b (no c) = rw (let z : t ≡ l = omega arith in z) e
 
 pub agree-sym : {x y : List ℕ} {l : ℕ} → Agree x y l → Agree y x l
 agree-sym g = record {
@@ -62,12 +62,9 @@ pub agree-unique : (x y : List ℕ) (l : ℕ) → Agree x y l → l ≡ commonLe
 agree-unique x y l g = go (common-agree x y)
   where
     go : {m : ℕ} → Agree x y m → l ≡ m
-    go {m} k = near (tri l m)
-      where
-        near : Tri l m → l ≡ m
-        near (lt h) = absurd (g .differ (omega (arith, k .matched .left)) (omega (arith, k .matched .right)) (k .matched .equal l h))
-        near (eq h) = h
-        near (gt h) = absurd (k .differ (omega (arith, g .matched .left)) (omega (arith, g .matched .right)) (g .matched .equal m h))
+    go {m} k = neither-less
+        (λ h. g .differ (omega (arith, k .matched .left)) (omega (arith, k .matched .right)) (k .matched .equal l h))
+        (λ h. k .differ (omega (arith, g .matched .left)) (omega (arith, g .matched .right)) (g .matched .equal m h))
 
 -- ---- the orders
 

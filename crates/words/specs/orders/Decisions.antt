@@ -1,5 +1,5 @@
 -- Tests that decide: Decides P b says that the test b is true just where P holds. Numbers, and the least number that passes.
-use mathlib.Core.Path.{_≡_, refl, ap}
+use mathlib.Core.Path.{_≡_, refl, ap, sym}
 use mathlib.Core.Bool.{Bool, true, false, not, _&&_, true≢false, false≢true}
 use Prim.Native.Nat.{ℕ, zero, suc, _+_, _≤_, _<_, compare, Ordering, Ordering·lt, Ordering·eq, Ordering·gt, compare·zero-zero, compare·zero-suc, compare·suc-zero, compare·suc-suc}
 use native.Mathlib.Nat.{le-refl}
@@ -7,7 +7,6 @@ use native.Mathlib.Omega.{arith}
 use native.Mathlib.Decide.{decLt}
 use lib.Dec.{leb, eqb, isLe, isEq}
 use Rattle.words.specs.Factorizations.{least}
-use Rattle.words.specs.orders.MismatchLaws.{Tri, tri}
 
 pub data Decides (P : Type 0) : Bool → Type 0 where
   holds : P → Decides P true
@@ -28,6 +27,10 @@ true-decides (fails n) q = absurd (n q)
 pub false-decides : {P : Type 0} {b : Bool} → Decides P b → ¬ P → b ≡ false
 false-decides (holds p) n = absurd (n p)
 false-decides (fails m) n = refl
+
+pub decides-unique : {P : Type 0} {a b : Bool} → Decides P a → Decides P b → a ≡ b
+decides-unique (holds p) d = sym (true-decides d p)
+decides-unique (fails n) d = sym (false-decides d n)
 
 pub decides-not : {P : Type 0} {b : Bool} → Decides P b → Decides (¬ P) (not b)
 decides-not (holds p) = fails (λ n. n p)
@@ -60,6 +63,9 @@ ordered (suc a) (suc b) = rw compare·suc-suc (go (ordered a b))
     go (lt h) = lt (omega arith)
     go (eq h) = eq (ap suc h)
     go (gt h) = gt (omega arith)
+
+pub neither-less : {a b : ℕ} → ¬ (a < b) → ¬ (b < a) → a ≡ b
+neither-less h k = omega arith
 
 pub leb-test : (a b : ℕ) → Decides (a ≤ b) (leb a b)
 leb-test a b = go (ordered a b)
@@ -106,9 +112,4 @@ least-unique P test d k i n p a l h = go (least-is P test d k i)
   where
     go : {m : ℕ} → Least P k i m → m ≡ n
     go (never g) = absurd (g n a l p)
-    go {m} (found q b e g) = near (tri m n)
-      where
-        near : Tri m n → m ≡ n
-        near (Tri.lt c) = absurd (h m b c q)
-        near (Tri.eq c) = c
-        near (Tri.gt c) = absurd (g n a c p)
+    go {m} (found q b e g) = neither-less (λ c. h m b c q) (λ c. g n a c p)

@@ -1,14 +1,12 @@
--- The inverse order with equality allowed, x ≼ y, and its laws; ≺ is ≼ without equality and a strict total order.
+-- The inverse order with equality allowed, x ≼ y, and its laws. Of x ≺ y and y ≼ x exactly one holds (≺-not-≼, not-≺-≼).
 use mathlib.Core.Path.{_≡_}
-use mathlib.Core.Logic.{_⊎_, inl, inr}
 use mathlib.Core.List.{List, [], _∷_, _++_}
 use Prim.Native.Nat.{ℕ}
 use native.Mathlib.Omega.{arith}
 use lib.ListN.{length}
-use Rattle.words.specs.Words.{_≪_, here, there, _⊑_, done, step, proper, _<ₗ_, _≺_, prefix, mismatch}
+use Rattle.words.specs.Words.{_≪_, here, there, _⊑_, done, step, proper, _≺_, prefix, mismatch}
 use Rattle.words.specs.orders.PrefixLaws.{⊑-refl, ⊑-trans, ⊑-length, ⊑-whole}
-use Rattle.words.specs.orders.MismatchLaws.{≪-trans, ≪-asym, ≪-not-⊑, ≪-extend}
-use Rattle.words.specs.orders.LexLaws.{<ₗ-total}
+use Rattle.words.specs.orders.MismatchLaws.{≪-trans, ≪-asym, ≪-not-⊑, ≪-extend, Compared, less, greater, within, beyond, compared}
 
 infix 40 _≼_
 pub data _≼_ (x y : List ℕ) : Type 0 where
@@ -49,29 +47,24 @@ pub ≺-≼ : {x y : List ℕ} → x ≺ y → x ≼ y
 ≺-≼ (prefix (proper h l)) = pre h
 ≺-≼ (mismatch h) = won h
 
+pub ≺-not-≼ : {x y : List ℕ} → x ≺ y → y ≼ x → ⊥
+≺-not-≼ (prefix (proper h l)) (won k) = ≪-not-⊑ k h
+≺-not-≼ (prefix (proper h l)) (pre k) = omega (arith, ⊑-length k)
+≺-not-≼ (mismatch h) k = ≼-not-≪ k h
+
 pub ≺-irrefl : {x : List ℕ} → x ≺ x → ⊥
-≺-irrefl (prefix (proper h l)) = omega arith
-≺-irrefl (mismatch h) = ≪-asym h h
+≺-irrefl h = ≺-not-≼ h (≼-refl _)
 
 -- words of different lengths differ
 pub ≼-≺ : {x y : List ℕ} → x ≼ y → ¬ (length x ≡ length y) → x ≺ y
 ≼-≺ (won h) n = mismatch h
 ≼-≺ (pre h) n = prefix (proper h (omega (arith, ⊑-length h)))
 
-pub ≺-total : (x y : List ℕ) → (x ≺ y) ⊎ ((x ≡ y) ⊎ (y ≺ x))
-≺-total x y = go (<ₗ-total x y)
+pub not-≺-≼ : (x y : List ℕ) → ¬ (x ≺ y) → y ≼ x
+not-≺-≼ x y n = go (compared y x)
   where
-    go : (x <ₗ y) ⊎ ((x ≡ y) ⊎ (y <ₗ x)) → (x ≺ y) ⊎ ((x ≡ y) ⊎ (y ≺ x))
-    go (inl (prefix h)) = inl (prefix h)
-    go (inl (mismatch h)) = inr (inr (mismatch h))
-    go (inr (inl e)) = inr (inl e)
-    go (inr (inr (prefix h))) = inr (inr (prefix h))
-    go (inr (inr (mismatch h))) = inl (mismatch h)
-
-pub ≺-trans : {x y z : List ℕ} → x ≺ y → y ≺ z → x ≺ z
-≺-trans {x} {y} {z} h k = go (≺-total x z) (≼-trans (≺-≼ h) (≺-≼ k))
-  where
-    go : (x ≺ z) ⊎ ((x ≡ z) ⊎ (z ≺ x)) → x ≼ z → x ≺ z
-    go (inl l) m = l
-    go (inr (inl e)) m = let s : x ≡ y = ≼-antisym (≺-≼ h) (rw (← e) at (≺-≼ k)) in absurd (≺-irrefl (rw (← s) at h))
-    go (inr (inr l)) m = absurd (≺-irrefl (rw (≼-antisym m (≺-≼ l)) at l))
+    go : Compared y x → y ≼ x
+    go (less h) = absurd (n (mismatch h))
+    go (greater h) = won h
+    go (within h) = pre h
+    go (beyond h l) = absurd (n (prefix (proper h l)))

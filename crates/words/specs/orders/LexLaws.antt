@@ -1,14 +1,11 @@
--- The lexicographic order with equality allowed, x ≤ₗ y, and its laws; <ₗ is ≤ₗ without equality and a strict total order.
-use mathlib.Core.Path.{_≡_}
-use mathlib.Core.Logic.{_⊎_, inl, inr}
+-- The lexicographic order with equality allowed, x ≤ₗ y, and its laws. Of x <ₗ y and y ≤ₗ x exactly one holds (<ₗ-not-≤ₗ, not-<ₗ-≤ₗ).
 use mathlib.Core.List.{List, [], _∷_, _++_}
 use Prim.Native.Nat.{ℕ, _≤_, _<_}
 use native.Mathlib.Omega.{arith}
-use native.Mathlib.Decide.{decLt}
 use lib.ListN.{length, length-append}
 use Rattle.words.specs.Words.{_≪_, here, there, _⊑_, done, step, proper, _<ₗ_, prefix, mismatch}
-use Rattle.words.specs.orders.PrefixLaws.{⊑-refl, ⊑-trans, ⊑-length, ⊑-whole, ⊑-both, ⊑-under}
-use Rattle.words.specs.orders.MismatchLaws.{≪-trans, ≪-asym, ≪-not-⊑, ≪-extend, ≪-under, Tri, lt, eq, gt, tri, Compared, less, greater, within, beyond, compared}
+use Rattle.words.specs.orders.PrefixLaws.{⊑-refl, ⊑-length, ⊑-both, ⊑-under}
+use Rattle.words.specs.orders.MismatchLaws.{≪-trans, ≪-asym, ≪-not-⊑, ≪-extend, ≪-under, Compared, less, greater, within, beyond, compared}
 
 infix 40 _≤ₗ_
 pub data _≤ₗ_ (x y : List ℕ) : Type 0 where
@@ -70,12 +67,9 @@ pub ≤ₗ-cancel : (t : List ℕ) {x y : List ℕ} → (t ++ x) ≤ₗ (t ++ y)
 
 -- words that go on with a and with c after a common t
 pub ≤ₗ-letter : (t : List ℕ) {x y : List ℕ} {a c : ℕ} → (t ++ a ∷ []) ⊑ x → (t ++ c ∷ []) ⊑ y → x ≤ₗ y → a ≤ c
-≤ₗ-letter t {a = a} {c = c} p q h = go (tri c a)
-  where
-    go : Tri c a → a ≤ c
-    go (lt l) = absurd (≤ₗ-not-≪ h (≪-extend (≪-under t (here l)) q p))
-    go (eq e) = omega arith
-    go (gt l) = omega arith
+≤ₗ-letter t {a = a} {c = c} p q h =
+    let n : ¬ (c < a) = λ l. ≤ₗ-not-≪ h (≪-extend (≪-under t (here l)) q p) in
+    omega arith
 
 -- ---- the strict order
 
@@ -83,33 +77,15 @@ pub <ₗ-≤ₗ : {x y : List ℕ} → x <ₗ y → x ≤ₗ y
 <ₗ-≤ₗ (prefix (proper h l)) = pre h
 <ₗ-≤ₗ (mismatch h) = lost h
 
-pub ≤ₗ-<ₗ : {x y : List ℕ} → x ≤ₗ y → ¬ (x ≡ y) → x <ₗ y
-≤ₗ-<ₗ {x} {y} (lost h) n = mismatch h
-≤ₗ-<ₗ {x} {y} (pre h) n = go (decLt (length x) (length y))
+pub <ₗ-not-≤ₗ : {x y : List ℕ} → x <ₗ y → y ≤ₗ x → ⊥
+<ₗ-not-≤ₗ (prefix (proper h l)) k = ≤ₗ-not-longer k h l
+<ₗ-not-≤ₗ (mismatch h) k = ≤ₗ-not-≪ k h
+
+pub not-<ₗ-≤ₗ : (x y : List ℕ) → ¬ (x <ₗ y) → y ≤ₗ x
+not-<ₗ-≤ₗ x y n = go (compared y x)
   where
-    go : Dec (length x < length y) → x <ₗ y
-    go (yes l) = prefix (proper h l)
-    go (no l) = absurd (n (⊑-whole h (omega arith)))
-
-pub <ₗ-irrefl : {x : List ℕ} → x <ₗ x → ⊥
-<ₗ-irrefl (prefix (proper h l)) = omega arith
-<ₗ-irrefl (mismatch h) = ≪-asym h h
-
-pub <ₗ-trans : {x y z : List ℕ} → x <ₗ y → y <ₗ z → x <ₗ z
-<ₗ-trans (prefix (proper h l)) (prefix (proper k m)) = prefix (proper (⊑-trans h k) (omega arith))
-<ₗ-trans (mismatch h) (mismatch k) = mismatch (≪-trans h k)
-<ₗ-trans (mismatch h) (prefix (proper k m)) = mismatch (≪-extend h (⊑-refl _) k)
-<ₗ-trans (prefix (proper h l)) (mismatch k) = ≤ₗ-<ₗ (≤ₗ-≪-trans (pre h) k) (λ e. ≤ₗ-not-≪ (pre h) (rw (← e) at k))
-
-pub <ₗ-total : (x y : List ℕ) → (x <ₗ y) ⊎ ((x ≡ y) ⊎ (y <ₗ x))
-<ₗ-total x y = go (compared x y)
-  where
-    go : Compared x y → (x <ₗ y) ⊎ ((x ≡ y) ⊎ (y <ₗ x))
-    go (less h) = inl (mismatch h)
-    go (greater h) = inr (inr (mismatch h))
-    go (beyond h l) = inr (inr (prefix (proper h l)))
-    go (within h) = near (decLt (length x) (length y))
-      where
-        near : Dec (length x < length y) → (x <ₗ y) ⊎ ((x ≡ y) ⊎ (y <ₗ x))
-        near (yes l) = inl (prefix (proper h l))
-        near (no l) = inr (inl (⊑-whole h (omega arith)))
+    go : Compared y x → y ≤ₗ x
+    go (less h) = lost h
+    go (greater h) = absurd (n (mismatch h))
+    go (within h) = pre h
+    go (beyond h l) = absurd (n (prefix (proper h l)))

@@ -1,13 +1,13 @@
--- Laws of ≪, and the one case split that both orders are made of: compared x y (THEORY: four cases, exactly one holds).
-use mathlib.Core.Path.{_≡_}
+-- Laws of ≪, and the one case split that both orders are made of: found x y, and compared x y with less detail.
+use mathlib.Core.Path.{_≡_, refl, ap}
 use mathlib.Core.List.{List, [], _∷_, _++_}
-use Prim.Native.Nat.{ℕ, zero, suc, _<_, suc-le-suc}
+use Prim.Native.Nat.{ℕ, zero, suc, _≤_, _<_, Ordering, Ordering·lt, Ordering·eq, Ordering·gt}
 use native.Mathlib.Nat.{lt-trans}
 use native.Mathlib.Omega.{arith}
-use native.Mathlib.Decide.{decLt}
-use lib.ListN.{length, getD}
-use Rattle.words.specs.Words.{_≪_, here, there, _⊑_, done, step}
-use Rattle.words.specs.orders.PrefixLaws.{⊑-refl}
+use lib.ListN.{length, take, getD}
+use Rattle.words.specs.Words.{_≪_, here, there, _⊑_, done, step, _⊏_, proper, Outcome, compareWords}
+use Rattle.words.specs.orders.Decisions.{Ordered, lt, eq, gt, ordered}
+use Rattle.words.specs.orders.PrefixLaws.{⊑-refl, take-⊑-next}
 
 pub ≪-trans : {x y z : List ℕ} → x ≪ y → y ≪ z → x ≪ z
 ≪-trans (here h) (here k) = here (lt-trans h k)
@@ -26,10 +26,6 @@ pub ≪-asym : {x y : List ℕ} → x ≪ y → y ≪ x → ⊥
 pub ≪-left-nonempty : {x y : List ℕ} → x ≪ y → 0 < length x
 ≪-left-nonempty (here h) = omega arith
 ≪-left-nonempty (there h) = omega arith
-
-pub ≪-right-nonempty : {x y : List ℕ} → x ≪ y → 0 < length y
-≪-right-nonempty (here h) = omega arith
-≪-right-nonempty (there h) = omega arith
 
 -- ---- append
 
@@ -60,27 +56,46 @@ pub ≪-letters : (k : ℕ) (x y : List ℕ) → k < length x → k < length y �
 ≪-letters (suc k) (a ∷ x) (b ∷ y) p q e h =
     rw (← e 0 (omega arith)) (there (≪-letters k x y (omega arith) (omega arith) (λ t l. e (suc t) (omega arith)) h))
 
+-- the first k letters of w, followed by a letter that is larger than the next one of w
+pub take-≪-larger : (k n : ℕ) (w : List ℕ) {b : ℕ} → k < n → n ≤ length w → getD w k 0 < b → take n w ≪ (take k w ++ b ∷ [])
+take-≪-larger k n w l h x = ≪-extend (≪-under (take k w) (here x)) (take-⊑-next k n w l h) (⊑-refl _)
+
 -- y, which begins with x, is below x ++ b ∷ []: its next letter is below b
 pub ≪-last : {x y : List ℕ} {b : ℕ} → x ⊑ y → y ≪ (x ++ b ∷ []) → (length x < length y) × (getD y (length x) 0 < b)
 ≪-last done (here h) = (omega arith, h)
 ≪-last (step p) (here h) = absurd (omega arith)
 ≪-last (step p) (there h) = let q = ≪-last p h in (omega (arith, q .0), q .1)
 
--- ---- the case splits
+-- ---- how two words compare
 
-pub data Tri (a b : ℕ) : Type 0 where
-  lt : a < b → Tri a b
-  eq : a ≡ b → Tri a b
-  gt : b < a → Tri a b
+pub data Found (x y : List ℕ) : Outcome → Type 0 where
+  less : x ≪ y → Found x y Outcome.less
+  greater : y ≪ x → Found x y Outcome.greater
+  same : x ≡ y → Found x y Outcome.same
+  shorter : x ⊏ y → Found x y Outcome.shorter
+  longer : y ⊏ x → Found x y Outcome.longer
 
-pub tri : (a b : ℕ) → Tri a b
-tri a b = go (decLt a b) (decLt b a)
+pub found : (x y : List ℕ) → Found x y (compareWords x y)
+unfolding compareWords
+found [] [] = same refl
+found [] (b ∷ y) = shorter (proper done (omega arith))
+found (a ∷ x) [] = longer (proper done (omega arith))
+found (a ∷ x) (b ∷ y) = go (ordered a b) (found x y)
   where
-    go : Dec (a < b) → Dec (b < a) → Tri a b
-    go (yes h) d = lt h
-    go (no h) (yes k) = gt k
-    go (no h) (no k) = eq (omega arith)
+    under : {o : Outcome} → Found x y o → Found (a ∷ x) (a ∷ y) o
+    under (less h) = less (there h)
+    under (greater h) = greater (there h)
+    under (same e) = same (ap (λ (t : List ℕ). a ∷ t) e)
+    under (shorter (proper h l)) = shorter (proper (step h) (omega arith))
+    under (longer (proper h l)) = longer (proper (step h) (omega arith))
 
+    go : {o : Ordering} → Ordered a b o → Found x y (compareWords x y)
+        → Found (a ∷ x) (b ∷ y) (elim o [ Ordering·lt ↦ Outcome.less | Ordering·eq ↦ compareWords x y | Ordering·gt ↦ Outcome.greater ])
+    go (lt h) f = less (here h)
+    go (eq e) f = rw (← e) (under f)
+    go (gt h) f = greater (here h)
+
+-- the same with less detail: four cases, exactly one holds
 pub data Compared (x y : List ℕ) : Type 0 where
   less : x ≪ y → Compared x y
   greater : y ≪ x → Compared x y
@@ -88,17 +103,11 @@ pub data Compared (x y : List ℕ) : Type 0 where
   beyond : y ⊑ x → length y < length x → Compared x y
 
 pub compared : (x y : List ℕ) → Compared x y
-compared [] y = within done
-compared (a ∷ x) [] = beyond done (omega arith)
-compared (a ∷ x) (b ∷ y) = go (tri a b) (compared x y)
+compared x y = go (found x y)
   where
-    under : Compared x y → Compared (a ∷ x) (a ∷ y)
-    under (less h) = less (there h)
-    under (greater h) = greater (there h)
-    under (within h) = within (step h)
-    under (beyond h l) = beyond (step h) (suc-le-suc l)
-
-    go : Tri a b → Compared x y → Compared (a ∷ x) (b ∷ y)
-    go (lt h) k = less (here h)
-    go (gt h) k = greater (here h)
-    go (eq e) k = rw (← e) (under k)
+    go : {o : Outcome} → Found x y o → Compared x y
+    go (Found.less h) = less h
+    go (Found.greater h) = greater h
+    go (same e) = within (rw e (⊑-refl y))
+    go (shorter (proper h l)) = within h
+    go (longer (proper h l)) = beyond h l

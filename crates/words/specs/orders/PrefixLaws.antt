@@ -4,7 +4,7 @@ use mathlib.Core.List.{List, [], _∷_, _++_}
 use Prim.Native.Nat.{ℕ, zero, suc, _≤_, _<_, zero-le, suc-le-suc}
 use native.Mathlib.Omega.{arith}
 use lib.ListN.{length, take, drop, getD, take-append-drop}
-use lib.Seq.{take-take}
+use lib.Seq.{take-suc, take-take}
 use Rattle.words.specs.Words.{_⊑_, done, step}
 
 pub ⊑-refl : (x : List ℕ) → x ⊑ x
@@ -63,6 +63,9 @@ pub ⊑-next : {x y : List ℕ} → x ⊑ y → length x < length y → (x ++ ge
 ⊑-next {y = []} done l = absurd (omega arith)
 ⊑-next {y = b ∷ y} done l = step done
 ⊑-next (step h) l = step (⊑-next h (omega arith))
+
+pub take-⊑-next : (k n : ℕ) (w : List ℕ) → k < n → n ≤ length w → (take k w ++ getD w k 0 ∷ []) ⊑ take n w
+take-⊑-next k n w l h = rw (take-suc w k 0 (omega arith)) at (take-⊑-take (suc k) n w l)
 
 pub ⊑-letters : (x y : List ℕ) → length x ≤ length y → ((t : ℕ) → t < length x → getD x t 0 ≡ getD y t 0) → x ⊑ y
 ⊑-letters [] y l e = done

@@ -1,14 +1,15 @@
 -- What the sign says (sign-is), and when two ranges give the same sign (sign-same-order).
-use mathlib.Core.Path.{_≡_, refl}
+use mathlib.Core.Path.{_≡_, ap}
 use mathlib.Core.List.{List}
 use mathlib.Core.Bool.{Bool, true, false}
 use Prim.Native.Nat.{ℕ, _-_}
 use lib.ListN.{drop}
 use lib.Seq.{slice}
+use lib.Dec.{eqb}
 use lib.IntN.{ℤ, pos, negsuc}
 use Rattle.words.specs.Words.{_≺_, sign}
-use Rattle.words.specs.orders.Decisions.{Decides, holds, fails, eqb-test}
-use Rattle.words.specs.lyndon.WordTests.{inverse-before-test}
+use Rattle.words.specs.orders.Decisions.{Decides, holds, fails, eqb-test, decides-map, decides-unique}
+use Rattle.words.specs.orders.OrderTests.{inverse-before-test}
 
 -- the remainder of the range from first to end that begins at start
 abbrev pub remainder : List ℕ → ℕ → ℕ → ℕ → List ℕ
@@ -34,15 +35,7 @@ pub sign-same-order : (w : List ℕ) (first end first′ end′ start other : �
     → (remainder w first end start ≺ remainder w first end other → remainder w first′ end′ start ≺ remainder w first′ end′ other)
     → (remainder w first′ end′ start ≺ remainder w first′ end′ other → remainder w first end start ≺ remainder w first end other)
     → sign w first end start other ≡ sign w first′ end′ start other
-sign-same-order w first end first′ end′ start other f g = go (sign-is w first end start other) (sign-is w first′ end′ start other)
-  where
-    go : {s t : ℤ} → SignOf w first end start other s → SignOf w first′ end′ start other t → s ≡ t
-    go (before n h) (before m k) = refl
-    go (before n h) (equal e) = absurd (n e)
-    go (before n h) (after m k) = absurd (k (f h))
-    go (equal e) (before m k) = absurd (m e)
-    go (equal e) (equal d) = refl
-    go (equal e) (after m k) = absurd (m e)
-    go (after n h) (before m k) = absurd (h (g k))
-    go (after n h) (equal e) = absurd (n e)
-    go (after n h) (after m k) = refl
+unfolding sign
+sign-same-order w first end first′ end′ start other f g = ap
+    (λ (before : Bool). elim (eqb start other) [ true ↦ pos 0 | false ↦ elim before [ true ↦ negsuc 0 | false ↦ pos 1 ] ])
+    (decides-unique (decides-map f g (inverse-before-test _ _)) (inverse-before-test _ _))

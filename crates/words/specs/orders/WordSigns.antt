@@ -7,7 +7,7 @@ use lib.ListN.{length, take, drop, length-drop}
 use lib.Seq.{slice, take-nil, drop-drop, length-take-le}
 use lib.IntN.{ℤ, pos, negsuc}
 use Rattle.words.specs.Words.{_≺_, sign}
-use Rattle.words.specs.orders.InverseLaws.{≺-irrefl, ≺-trans}
+use Rattle.words.specs.orders.InverseLaws.{≺-≼, ≺-irrefl, ≺-not-≼}
 use Rattle.words.specs.orders.SignLaws.{remainder, SignOf, sign-is}
 
 pub data SignOfWords (x y : List ℕ) : ℤ → Type 0 where
@@ -39,6 +39,6 @@ sign-parts w first end start other h a b c d x =
     go (same e) (SignOf.before n k) = absurd (≺-irrefl (rw e at k))
     go (same e) (SignOf.equal d) = refl
     go (same e) (SignOf.after n m) = absurd (n (omega (arith, simp (length-drop, length-take-le end w h) at (ap length e))))
-    go (after k) (SignOf.before n m) = absurd (≺-irrefl (≺-trans m k))
+    go (after k) (SignOf.before n m) = absurd (≺-not-≼ m (≺-≼ k))
     go (after k) (SignOf.equal e) = absurd (≺-irrefl (rw e at k))
     go (after k) (SignOf.after n m) = refl

@@ -1,8 +1,8 @@
 -- THEOREM demand-3. Demand 3 whole, for every word, over the ends that the cuts write and the sign that the comparison answers (the
 -- paper's records have 1 to 4,096 letters; no bound is needed). It rests on icfl-dominated, on the theorems of cflIn, and on one fact: the
 -- suffix at a boundary of icfl comes no later than any earlier suffix (icfl-first).
-use mathlib.Core.Path.{_≡_, ap, subst}
-use mathlib.Core.List.{List, _++_, List·Memᴰ}
+use mathlib.Core.Path.{_≡_, ap}
+use mathlib.Core.List.{List, [], _++_, List·Memᴰ}
 use Prim.Native.Nat.{ℕ, _+_, _-_, _≤_, _<_}
 use native.Mathlib.Omega.{arith}
 use native.Mathlib.Decide.{decLt}
@@ -10,7 +10,7 @@ use lib.ListN.{length, take, drop}
 use lib.Seq.{slice, drop-drop}
 use Rattle.words.specs.Words.{_≪_, _⊑_, InverseLyndon}
 use Rattle.words.specs.Factorizations.{icfl, cflIn, icflEnds, cflInEnds}
-use Rattle.words.specs.Statements.{Part, Demand3}
+use Rattle.words.specs.Statements.{DominatedBy, Part, Demand3}
 use Rattle.words.specs.orders.PrefixLaws.{⊑-trans, ⊑-both, ⊑-drop, take-⊑-take}
 use Rattle.words.specs.orders.MismatchLaws.{≪-append}
 use Rattle.words.specs.orders.LexLaws.{_≤ₗ_, lost, pre}
@@ -19,8 +19,9 @@ use Rattle.words.specs.lyndon.WordTests.{suffix-below}
 use Rattle.words.specs.lyndon.Suffixes.{dominated-at}
 use Rattle.words.specs.lyndon.AntiLyndonLaws.{equal-or-after-≼}
 use Rattle.words.specs.places.FirstSuffixes.{FirstSuffix, Boundary, boundary-first, boundary-inside, dominated-led}
-use Rattle.words.specs.places.Ends.{start-boundary, ends-boundary, boundary-ends, adjacent-left, adjacent-right, PartOf}
-use Rattle.words.specs.places.Neighbours.{ends-above, part-of, part-slice, part-linked, PartsOf, parts-of, parts-first, parts-second, parts-linked}
+use Rattle.words.specs.places.Ends.{start-boundary, ends-boundary, boundary-ends, adjacent-left, adjacent-right}
+use Rattle.words.specs.places.EndsRise.{icfl-ends-rise, cfl-in-ends-rise}
+use Rattle.words.specs.places.Parts.{rises-above, rises-adjacent, part-word, parts-linked}
 use Rattle.words.specs.places.Ranges.{range-suffix, compatible}
 use Rattle.words.specs.icfl.IcflConcat.{icfl-concat}
 use Rattle.words.specs.icfl.IcflDominated.{icfl-dominated}
@@ -38,18 +39,13 @@ module _ (w : List ℕ) where
 
   factor : (i j : ℕ) → Part (icflEnds w) i j → InverseLyndon (slice i j w)
   unfolding icflEnds
-  factor i j x =
-      let q : PartOf 0 (icfl w) i j = part-of (icfl w) x in
-      let e : slice i j w ≡ q .word = subst (λ (v : List ℕ). slice i j v ≡ q .word) (icfl-concat w) (part-slice (icfl w) i j q) in
-      rw e (part-linked (icfl w) i j q (icfl-dominated w))
+  factor i j x = rw (icfl-concat w) at (part-word [] (icfl w) (icfl-dominated w) x)
 
   factor-below : (i j k : ℕ) → Part (icflEnds w) i j → Part (icflEnds w) j k → slice i j w ≪ slice j k w
   unfolding icflEnds
   factor-below i j k x y =
-      let q : PartsOf 0 (icfl w) i j k = parts-of (λ m l. l .nonempty) (icfl w) (icfl-dominated w) x y in
-      let e : slice i j w ≡ q .word = subst (λ (v : List ℕ). slice i j v ≡ q .word) (icfl-concat w) (parts-first (icfl w) i j k q) in
-      let f : slice j k w ≡ q .next = subst (λ (v : List ℕ). slice j k v ≡ q .next) (icfl-concat w) (parts-second (icfl w) i j k q) in
-      rw (e, f) (dominated-at {m = q .word} (parts-linked (icfl w) i j k q (icfl-dominated w)) 0 (rw e at (factor i j x .nonempty)))
+      let d : DominatedBy (slice i j w) (slice j k w) = rw (icfl-concat w) at (parts-linked [] (icfl w) (icfl-dominated w) (icfl-ends-rise w) x y) in
+      dominated-at {m = slice i j w} d 0 (factor i j x .nonempty)
 
   -- ---- ends
 
@@ -57,7 +53,7 @@ module _ (w : List ℕ) where
   unfolding icflEnds cflInEnds
   end-strict e m =
       let b : Boundary e (icfl w) = ends-boundary (icfl w) m in
-      boundary-ends (ends-above (λ m l. l .nonempty) 0 (icfl w) (icfl-dominated w) m) (first-cfl-in-boundary w e (icfl-inside e b) (icfl-first e b))
+      boundary-ends (rises-above (icfl-ends-rise w) m) (first-cfl-in-boundary w e (icfl-inside e b) (icfl-first e b))
 
   -- ---- strict pieces in one piece
 
@@ -77,14 +73,14 @@ module _ (w : List ℕ) where
   unfolding icflEnds cflInEnds
   nested a b i j k x y z l h = go (decLt (length (slice i j w)) (length (slice j k w)))
     where
-      q : PartsOf 0 (cflIn w) i j k
-      q = parts-of (λ m l. l .nonempty) (cflIn w) (cfl-in-is w .words) y z
-
       after : slice j k w ≼ slice i j w
-      after =
-          let e : slice i j w ≡ q .word = subst (λ (v : List ℕ). slice i j v ≡ q .word) (cfl-in-is w .product) (parts-first (cflIn w) i j k q) in
-          let f : slice j k w ≡ q .next = subst (λ (v : List ℕ). slice j k v ≡ q .next) (cfl-in-is w .product) (parts-second (cflIn w) i j k q) in
-          rw (e, f) (equal-or-after-≼ (parts-linked (cflIn w) i j k q (cfl-in-is w .words)))
+      after = equal-or-after-≼ (rw (cfl-in-is w .product) at (parts-linked [] (cflIn w) (cfl-in-is w .words) (cfl-in-ends-rise w) y z))
+
+      i-before-j : i < j
+      i-before-j = rises-adjacent (cfl-in-ends-rise w) y .1
+
+      j-before-k : j < k
+      j-before-k = rises-adjacent (cfl-in-ends-rise w) z .1
 
       inside : b ≤ length w
       inside = icfl-inside b (start-boundary (icfl w) (adjacent-right x))
@@ -95,10 +91,10 @@ module _ (w : List ℕ) where
           ⊑-trans (⊑-drop s (take-⊑-take e b w o)) (first-begins a b s (factor a b x) m (omega arith) inside (cfl-in-boundary-first w s c))
 
       first : slice i j w ⊑ slice a b w
-      first = begins i j (start-boundary (cflIn w) (adjacent-left y)) l (omega (arith, q .middle)) (omega (arith, q .end))
+      first = begins i j (start-boundary (cflIn w) (adjacent-left y)) l (omega (arith, i-before-j)) (omega (arith, j-before-k, h))
 
       second : slice j k w ⊑ slice a b w
-      second = begins j k (start-boundary (cflIn w) (adjacent-right y)) (omega (arith, q .middle)) (omega (arith, q .end)) h
+      second = begins j k (start-boundary (cflIn w) (adjacent-right y)) (omega (arith, i-before-j)) (omega (arith, j-before-k)) h
 
       go : Dec (length (slice i j w) < length (slice j k w)) → slice j k w ⊑ slice i j w
       go (no m) = ⊑-both second first (omega arith)

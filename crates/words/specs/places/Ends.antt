@@ -1,59 +1,50 @@
--- Ends and boundaries: the ends of a list of words are its boundaries but the first (ends-boundary, boundary-ends), and neighbouring
--- ends bound a word of it (part-of, parts-of).
-use mathlib.Core.Path.{_≡_, refl, ap}
+-- Ends and boundaries: the ends of a list of words are its boundaries but the first (ends-boundary, boundary-ends). Laws of Adjacent.
+use mathlib.Core.Path.{_≡_, refl}
 use mathlib.Core.Logic.{_⊎_, inl, inr}
-use mathlib.Core.List.{List, [], _∷_, _++_, flatten, List·Memᴰ, List·Memᴰ·head, List·Memᴰ·tail, List·Memᴰ·cases-cons, List·Memᴰ·not-nil, Memᴰ·cast}
+use mathlib.Core.List.{List, [], _∷_, List·Memᴰ, List·Memᴰ·head, List·Memᴰ·tail, List·Memᴰ·cases-cons, List·Memᴰ·eq-of-singleton, Memᴰ·cast}
 use Prim.Native.Nat.{ℕ, _+_, _<_}
 use native.Mathlib.Omega.{arith}
-use lib.ListN.{length, length-append}
+use lib.ListN.{length}
 use Rattle.words.specs.Factorizations.{endsFrom}
 use Rattle.words.specs.Statements.{Adjacent, here, there}
 use Rattle.words.specs.places.FirstSuffixes.{Boundary, start, later}
 
 -- ---- boundaries
 
-boundary-ends-from : (i : ℕ) {c : ℕ} {ms : List (List ℕ)} → Boundary c ms → (c ≡ 0) ⊎ List·Memᴰ (i + c) (endsFrom i ms)
+-- where the list begins at i
+boundary-from : (i : ℕ) {c : ℕ} {ms : List (List ℕ)} → Boundary c ms → List·Memᴰ (i + c) (i ∷ endsFrom i ms)
 unfolding endsFrom
-boundary-ends-from i start = inl refl
-boundary-ends-from i (later {i = c} {m = m} {ms = ms} k) = inr (go (boundary-ends-from (i + length m) k))
-  where
-    go : (c ≡ 0) ⊎ List·Memᴰ (i + length m + c) (endsFrom (i + length m) ms) → List·Memᴰ (i + (length m + c)) ((i + length m) ∷ endsFrom (i + length m) ms)
-    go (inl e) = List·Memᴰ·head {x = i + length m} (omega arith)
-    go (inr x) = Memᴰ·cast (let z : i + (length m + c) ≡ i + length m + c = omega arith in z) (List·Memᴰ·tail x)
+boundary-from i start = List·Memᴰ·head {x = i} (omega arith)
+boundary-from i (later {i = c} {m = m} k) =
+    List·Memᴰ·tail (Memᴰ·cast (let z : i + (length m + c) ≡ i + length m + c = omega arith in z) (boundary-from (i + length m) k))
 
-ends-from-boundary : (i : ℕ) (ms : List (List ℕ)) {e : ℕ} → List·Memᴰ e (endsFrom i ms) → (c : ℕ) × (e ≡ i + c) × Boundary c ms
+from-boundary : (i : ℕ) (ms : List (List ℕ)) {e : ℕ} → List·Memᴰ e (i ∷ endsFrom i ms) → (c : ℕ) × (e ≡ i + c) × Boundary c ms
 unfolding endsFrom
-ends-from-boundary i [] h = absurd (List·Memᴰ·not-nil h)
-ends-from-boundary i (m ∷ ms) {e} h = go (List·Memᴰ·cases-cons h) (λ x. ends-from-boundary (i + length m) ms x)
+from-boundary i [] h = (0, omega (arith, List·Memᴰ·eq-of-singleton h), start)
+from-boundary i (m ∷ ms) {e} h = go (List·Memᴰ·cases-cons h) (λ x. from-boundary (i + length m) ms x)
   where
-    go : (e ≡ i + length m) ⊎ List·Memᴰ e (endsFrom (i + length m) ms) → (List·Memᴰ e (endsFrom (i + length m) ms) → (c : ℕ) × (e ≡ i + length m + c) × Boundary c ms)
-        → (c : ℕ) × (e ≡ i + c) × Boundary c (m ∷ ms)
-    go (inl x) next = (length m + 0, omega arith, later start)
+    es : List ℕ
+    es = (i + length m) ∷ endsFrom (i + length m) ms
+
+    go : (e ≡ i) ⊎ List·Memᴰ e es → (List·Memᴰ e es → (c : ℕ) × (e ≡ i + length m + c) × Boundary c ms) → (c : ℕ) × (e ≡ i + c) × Boundary c (m ∷ ms)
+    go (inl x) next = (0, omega arith, start)
     go (inr x) next = let q = next x in (length m + q .0, omega (arith, q .1), later (q .2))
 
-pub ends-boundary : (ms : List (List ℕ)) {e : ℕ} → List·Memᴰ e (endsFrom 0 ms) → Boundary e ms
-ends-boundary ms {e} h = let q = ends-from-boundary 0 ms h in rw (let z : e ≡ q .0 = omega (arith, q .1) in z) (q .2)
-
 pub start-boundary : (ms : List (List ℕ)) {e : ℕ} → List·Memᴰ e (0 ∷ endsFrom 0 ms) → Boundary e ms
-start-boundary ms {e} h = go (List·Memᴰ·cases-cons h)
-  where
-    go : (e ≡ 0) ⊎ List·Memᴰ e (endsFrom 0 ms) → Boundary e ms
-    go (inl z) = rw z start
-    go (inr x) = ends-boundary ms x
+start-boundary ms {e} h = let q = from-boundary 0 ms h in rw (let z : e ≡ q .0 = omega (arith, q .1) in z) (q .2)
 
-pub boundary-ends : {e : ℕ} {ms : List (List ℕ)} → 0 < e → Boundary e ms → List·Memᴰ e (endsFrom 0 ms)
-boundary-ends {e} {ms} p b = go (boundary-ends-from 0 b)
-  where
-    go : (e ≡ 0) ⊎ List·Memᴰ (0 + e) (endsFrom 0 ms) → List·Memᴰ e (endsFrom 0 ms)
-    go (inl z) = absurd (omega arith)
-    go (inr x) = Memᴰ·cast (let z : e ≡ 0 + e = omega arith in z) x
+pub ends-boundary : (ms : List (List ℕ)) {e : ℕ} → List·Memᴰ e (endsFrom 0 ms) → Boundary e ms
+ends-boundary ms h = start-boundary ms (List·Memᴰ·tail h)
 
 pub boundary-start : {e : ℕ} {ms : List (List ℕ)} → Boundary e ms → List·Memᴰ e (0 ∷ endsFrom 0 ms)
-boundary-start {e} {ms} b = go (boundary-ends-from 0 b)
+boundary-start {e} b = Memᴰ·cast (let z : e ≡ 0 + e = omega arith in z) (boundary-from 0 b)
+
+pub boundary-ends : {e : ℕ} {ms : List (List ℕ)} → 0 < e → Boundary e ms → List·Memᴰ e (endsFrom 0 ms)
+boundary-ends {e} {ms} p b = go (List·Memᴰ·cases-cons (boundary-start b))
   where
-    go : (e ≡ 0) ⊎ List·Memᴰ (0 + e) (endsFrom 0 ms) → List·Memᴰ e (0 ∷ endsFrom 0 ms)
-    go (inl z) = List·Memᴰ·head z
-    go (inr x) = List·Memᴰ·tail (Memᴰ·cast (let z : e ≡ 0 + e = omega arith in z) x)
+    go : (e ≡ 0) ⊎ List·Memᴰ e (endsFrom 0 ms) → List·Memᴰ e (endsFrom 0 ms)
+    go (inl z) = absurd (omega arith)
+    go (inr x) = x
 
 -- ---- neighbours
 
@@ -71,31 +62,3 @@ adjacent-left (there x) = List·Memᴰ·tail (adjacent-left x)
 pub adjacent-right : {i j : ℕ} {es : List ℕ} → Adjacent i j es → List·Memᴰ j es
 adjacent-right here = List·Memᴰ·tail (List·Memᴰ·head refl)
 adjacent-right (there x) = List·Memᴰ·tail (adjacent-right x)
-
--- from b on, the word from i to j
-pub record PartOf (b : ℕ) (ms : List (List ℕ)) (i j : ℕ) : Type 0 where
-  pub before : List (List ℕ)
-  pub word : List ℕ
-  pub after : List (List ℕ)
-  pub is : ms ≡ before ++ word ∷ after
-  pub place : i ≡ b + length (flatten before)
-  pub end : j ≡ i + length word
-
-pub part-from : (b : ℕ) (ms : List (List ℕ)) {i j : ℕ} → Adjacent i j (b ∷ endsFrom b ms) → PartOf b ms i j
-unfolding endsFrom flatten
-part-from b [] x = absurd (adjacent-one x)
-part-from b (m ∷ ms) {i} {j} x = go (adjacent-cases x) (λ y. part-from (b + length m) ms y)
-  where
-    go : ((i ≡ b) × (j ≡ b + length m)) ⊎ Adjacent i j ((b + length m) ∷ endsFrom (b + length m) ms)
-        → (Adjacent i j ((b + length m) ∷ endsFrom (b + length m) ms) → PartOf (b + length m) ms i j) → PartOf b (m ∷ ms) i j
-    go (inl e) next = record { before = []; word = m; after = ms; is = refl; place = omega (arith, e .0); end = omega (arith, e .0, e .1) }
-    go (inr y) next =
-        let q = next y in
-        record {
-          before = m ∷ q .before;
-          word = q .word;
-          after = q .after;
-          is = ap (λ (t : List (List ℕ)). m ∷ t) (q .is);
-          place = rw length-append (omega (arith, q .place));
-          end = q .end;
-        }

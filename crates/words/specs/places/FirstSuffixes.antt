@@ -26,6 +26,14 @@ FirstSuffix i w = (j : ℕ) → j ≤ i → drop i w ≼ drop j w
 abbrev pub Leads : List ℕ → List ℕ → Type 0
 Leads m s = (i : ℕ) → s ≼ (drop i m ++ s)
 
+-- past the end of m there is nothing to show
+leads-within : {m s : List ℕ} → ((i : ℕ) → i < length m → s ≼ (drop i m ++ s)) → Leads m s
+leads-within {m} {s} f i = go (decLt i (length m))
+  where
+    go : Dec (i < length m) → s ≼ (drop i m ++ s)
+    go (yes h) = f i h
+    go (no h) = rw (drop-of-length-le m {i = i} (omega arith)) (≼-refl s)
+
 -- what follows a word of the list leads it
 pub data Led : List (List ℕ) → Type 0 where
   none : Led []
@@ -59,12 +67,8 @@ dominated-led Linked.none = none
 dominated-led (Linked.more {m = m} {ms = ms} k d g) = more (leads d) (dominated-led g)
   where
     leads : {ns : List (List ℕ)} → Next DominatedBy m ns → Leads m (flatten ns)
-    leads Next.end i = pre done
-    leads (Next.by {n = n} {ns = ns} c) i = go (decLt i (length m))
-      where
-        go : Dec (i < length m) → (n ++ flatten ns) ≼ (drop i m ++ (n ++ flatten ns))
-        go (yes h) = won (≪-append _ _ (dominated-at c i h))
-        go (no h) = rw (drop-of-length-le m {i = i} (omega arith)) (≼-refl _)
+    leads Next.end = λ i. pre done
+    leads (Next.by c) = leads-within {m = m} (λ i h. won (≪-append _ _ (dominated-at c i h)))
 
 -- ---- anti-Lyndon lists
 
@@ -113,11 +117,8 @@ first-boundary (Linked.more {m = m} {ms = ms} a x d) i l f = go (begins m (flatt
 -- ---- a range that ends at such a place
 
 pub first-leads : (x u y : List ℕ) → FirstSuffix (length x + length u) (x ++ (u ++ y)) → Leads u y
-first-leads x u y f i = go (decLt i (length u))
-  where
-    go : Dec (i < length u) → y ≼ (drop i u ++ y)
-    go (no h) = rw (drop-of-length-le u {i = i} (omega arith)) (≼-refl y)
-    go (yes h) = rw (drop-append-add x (u ++ y) (length u), drop-append-add x (u ++ y) i, drop-append-seam, drop-append-le i u y (omega arith)) at (f (length x + i) (omega arith))
+first-leads x u y f = leads-within {m = u} (λ i h.
+    rw (drop-append-add x (u ++ y) (length u), drop-append-add x (u ++ y) i, drop-append-seam, drop-append-le i u y (omega arith)) at (f (length x + i) (omega arith)))
 
 pub range-before : {u y : List ℕ} → Leads u y → (i j : ℕ) → drop i u ≼ drop j u → (drop i u ++ y) ≼ (drop j u ++ y)
 range-before h i j (won x) = won (≪-append _ _ x)

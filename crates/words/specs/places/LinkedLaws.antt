@@ -15,7 +15,8 @@ linked-before {R} (m ∷ ms) ys (more p d g) = more p (next ms d) (linked-before
     next [] x = end
     next (n ∷ ns) (by r) = by r
 
-pub linked-map : {P : List ℕ → Type 0} {R S : List ℕ → List ℕ → Type 0} → ((m n : List ℕ) → P m → R m n → S m n) → {ms : List (List ℕ)} → Linked P R ms → Linked P S ms
+pub linked-map : {P : List ℕ → Type 0} {R S : List ℕ → List ℕ → Type 0} → ((m n : List ℕ) → P m → R m n → S m n)
+    → {ms : List (List ℕ)} → Linked P R ms → Linked P S ms
 linked-map f none = none
 linked-map {P} {R} {S} f (more {m = m} p d g) = more p (next d) (linked-map f g)
   where

@@ -12,7 +12,7 @@ use lib.ListN.{length, take, drop, getD, length-append, length-drop, drop-of-len
 use lib.Seq.{drop-append-le, drop-drop, drop-length, length-take-le}
 use Rattle.words.specs.Words.{_≪_, here, _⊑_, done, InverseLyndon, AntiLyndon}
 use Rattle.words.specs.orders.PrefixLaws.{⊑-refl, ⊑-append, ⊑-both, ⊑-drop, ⊑-next, ⊑-split, ⊑-trans, ⊑-under, take-⊑}
-use Rattle.words.specs.orders.MismatchLaws.{≪-append, ≪-extend, ≪-not-⊑, ≪-trans, ≪-under, Tri, lt, eq, gt, tri}
+use Rattle.words.specs.orders.MismatchLaws.{≪-append, ≪-extend, ≪-not-⊑, ≪-trans, ≪-under}
 use Rattle.words.specs.orders.LexLaws.{_≤ₗ_, lost, pre, ≤ₗ-cancel, ≤ₗ-letter, ≤ₗ-not-≪, ≤ₗ-prefixes, ≤ₗ-refl}
 use Rattle.words.specs.lyndon.WordTests.{anti-lyndon, inverse-lyndon, suffix-below, suffix-loses}
 
@@ -32,18 +32,17 @@ border-letter {g} k p i s a l z h =
     let b : ℕ = getD g (length (drop p g)) 0 in
     let y : (drop p g ++ b ∷ []) ⊑ g = ⊑-next z (rw length-drop (omega arith)) in
     let e : drop (i - p) (drop p g) ≡ drop i g = drop-drop (i - p) p g ∙ ap (λ (n : ℕ). drop n g) (let e : p + (i - p) ≡ i = omega arith in e) in
-    let d : (drop (i - p) (drop p g) ++ b ∷ []) ⊑ drop (i - p) g = rw (drop-append-le (i - p) (drop p g) (b ∷ []) (rw length-drop (omega arith))) at (⊑-drop (i - p) y) in
+    let d : (drop (i - p) (drop p g) ++ b ∷ []) ⊑ drop (i - p) g
+    = rw (drop-append-le (i - p) (drop p g) (b ∷ []) (rw length-drop (omega arith))) at (⊑-drop (i - p) y) in
     let t : (drop i g ++ b ∷ []) ⊑ drop (i - p) g = subst (λ (x : List ℕ). (x ++ b ∷ []) ⊑ drop (i - p) g) e d in
     ≤ₗ-letter (drop i g) t (⊑-next h (rw length-drop (omega arith))) (suffix-below k (i - p))
 
 module _ {g : List ℕ} {p : ℕ} (f : InverseLyndon g) (k : Period g p) where
   -- the letter after any border is no smaller than the letter after the longest
   met-least : (i : ℕ) → 0 < i → i ≤ length g → drop i g ⊑ g → getD g (length g - p) 0 ≤ getD g (length (drop i g)) 0
-  met-least i s l h = go (decLt i p)
-    where
-      go : Dec (i < p) → getD g (length g - p) 0 ≤ getD g (length (drop i g)) 0
-      go (yes q) = absurd (k .least i s q h)
-      go (no q) = rw (length-drop p g) at (border-letter f p i (k .positive) (omega arith) l (k .repeats) h)
+  met-least i s l h =
+      let n : ¬ (i < p) = λ q. k .least i s q h in
+      rw (length-drop p g) at (border-letter f p i (k .positive) (omega arith) l (k .repeats) h)
 
   pub step-less : (b : ℕ) → b < getD g (length g - p) 0 → AntiLyndon (g ++ b ∷ [])
   step-less b l = anti-lyndon (rw length-append (omega arith)) (λ i s m. go i s (omega (arith, simp length-append at m)) (suffix-below f i))
@@ -61,15 +60,16 @@ module _ {g : List ℕ} {p : ℕ} (f : InverseLyndon g) (k : Period g p) where
       near : (i : ℕ) → i ≤ length g → drop i g ≤ₗ g → Dec (0 < i) → drop i (g ++ b ∷ []) ≤ₗ (g ++ b ∷ [])
       near i m h (no s) = rw (let z : i ≡ 0 = omega arith in z) (≤ₗ-refl _)
       near i m (lost h) (yes s) = rw (drop-append-le i g (b ∷ []) m) (lost (≪-append _ _ h))
-      near i m (pre h) (yes s) = rw (drop-append-le i g (b ∷ []) m) (letter (tri b (getD g (length (drop i g)) 0)))
+      near i m (pre h) (yes s) = rw (drop-append-le i g (b ∷ []) m) (letter (decLt b (getD g (length (drop i g)) 0)))
         where
           on : (drop i g ++ getD g (length (drop i g)) 0 ∷ []) ⊑ (g ++ b ∷ [])
           on = ⊑-trans (⊑-next h (rw length-drop (omega arith))) (⊑-append g _)
 
-          letter : Tri b (getD g (length (drop i g)) 0) → (drop i g ++ b ∷ []) ≤ₗ (g ++ b ∷ [])
-          letter (lt x) = lost (≪-extend (≪-under (drop i g) (here x)) (⊑-refl _) on)
-          letter (eq x) = pre (subst (λ (c : ℕ). (drop i g ++ c ∷ []) ⊑ (g ++ b ∷ [])) (sym x) on)
-          letter (gt x) = absurd (omega (arith, met-least i s m h))
+          letter : Dec (b < getD g (length (drop i g)) 0) → (drop i g ++ b ∷ []) ≤ₗ (g ++ b ∷ [])
+          letter (yes x) = lost (≪-extend (≪-under (drop i g) (here x)) (⊑-refl _) on)
+          letter (no x) =
+              let e : getD g (length (drop i g)) 0 ≡ b = omega (arith, met-least i s m h) in
+              pre (subst (λ (c : ℕ). (drop i g ++ c ∷ []) ⊑ (g ++ b ∷ [])) e on)
 
       go : (i : ℕ) → Dec (length g < i) → drop i (g ++ b ∷ []) ≤ₗ (g ++ b ∷ [])
       go i (yes m) = rw (drop-of-length-le (g ++ b ∷ []) {i = i} (rw length-append (omega arith))) (pre done)

@@ -32,7 +32,9 @@ Stops w n b = n < length w → getD w b 0 < getD w n 0
 
 pub scanned-one : (w : List ℕ) → 0 < length w → Scanned w 1 0
 scanned-one [] l = absurd (omega arith)
-scanned-one (a ∷ w) l = record { shorter = omega arith; inside = omega arith; word = anti-inverse-lyndon (letter-anti-lyndon a); period = anti-period (letter-anti-lyndon a) }
+scanned-one (a ∷ w) l =
+    let k = letter-anti-lyndon a in
+    record { shorter = omega arith; inside = omega arith; word = anti-inverse-lyndon k; period = anti-period k }
 
 module _ {w : List ℕ} {n b : ℕ} (s : Scanned w n b) where
   size : length (take n w) ≡ n
@@ -75,7 +77,8 @@ module _ {w : List ℕ} {n b : ℕ} (s : Scanned w n b) where
       step-more (s .word) (s .period) (getD w n 0) (rw met-is h) (rw (take-suc w n 0 l) at x)
 
   pub scanned-longest : Stops w n b → longestAntiLyndon w ≡ n - b
-  scanned-longest h = longest-unique w (n - b) (s .period .positive) (record { upto = omega (arith, s .inside); word = λ p. root; longer = λ j a c. go j a c (decLt n j) })
+  scanned-longest h = longest-unique w (n - b) (s .period .positive)
+      (record { upto = omega (arith, s .inside); word = λ p. root; longer = λ j a c. go j a c (decLt n j) })
     where
       go : (j : ℕ) → n - b < j → j ≤ length w → Dec (n < j) → ¬ AntiLyndon (take j w)
       go j a c (no d) = longer-within j a (omega arith)

@@ -13,8 +13,9 @@ use lib.ListN.{length, take, drop, getD, set, length-drop}
 use lib.Seq.{take-suc, length-take-le, getD-take, drop-drop, drop-append-le, getD-set-same, getD-set-other}
 use Rattle.words.specs.Words.{_≪_, here, _⊑_, InverseLyndon}
 use Rattle.words.specs.Factorizations.{failingLength, borderLength}
-use Rattle.words.specs.orders.PrefixLaws.{⊑-refl, ⊑-both, ⊑-trans, take-⊑-take}
-use Rattle.words.specs.orders.MismatchLaws.{≪-append, ≪-extend, ≪-under, Tri, lt, eq, gt, tri}
+use Rattle.words.specs.orders.Decisions.{neither-less}
+use Rattle.words.specs.orders.PrefixLaws.{⊑-refl, ⊑-both, ⊑-trans, take-⊑-take, take-⊑-next}
+use Rattle.words.specs.orders.MismatchLaws.{≪-append, ≪-extend, ≪-under, take-≪-larger}
 use Rattle.words.specs.orders.LexLaws.{_≤ₗ_, lost, pre, ≤ₗ-not-≪}
 use Rattle.words.specs.lyndon.WordTests.{suffix-below}
 use Rattle.words.specs.icfl.Failing.{Failing, failing-unique, Shortest, shortest-is}
@@ -31,11 +32,9 @@ scanned-border s = record { shorter = s .shorter; repeats = s .period .repeats }
 
 -- no border is longer than the one that the period leaves
 longest-border : {w : List ℕ} {k b j : ℕ} → Period (take k w) (k - b) → BorderOf w k j → j ≤ b
-longest-border {w} {k} {b} {j} p c = go (decLt b j)
-  where
-    go : Dec (b < j) → j ≤ b
-    go (no h) = omega arith
-    go (yes h) = absurd (p .least (k - j) (omega (arith, c .shorter)) (omega (arith, c .shorter)) (c .repeats))
+longest-border {w} {k} {b} {j} p c =
+    let n : ¬ (b < j) = λ h. p .least (k - j) (omega (arith, c .shorter)) (omega (arith, c .shorter)) (c .repeats) in
+    omega arith
 
 module _ (w : List ℕ) (n : ℕ) (l : n ≤ length w) where
   size : length (take n w) ≡ n
@@ -61,7 +60,8 @@ module _ (w : List ℕ) (n : ℕ) (l : n ≤ length w) where
       let s : length (take k w) ≡ k = length-take-le k w (omega (arith, b .shorter)) in
       record {
         shorter = h;
-        repeats = ⊑-both (rw (border-drop {k = k} j b (omega arith)) at (c .repeats)) (take-⊑-take k n w (omega (arith, b .shorter))) (rw (length-drop, s) (omega arith));
+        repeats = ⊑-both (rw (border-drop {k = k} j b (omega arith)) at (c .repeats))
+            (take-⊑-take k n w (omega (arith, b .shorter))) (rw (length-drop, s) (omega arith));
       }
 
   -- the shorter of two borders is followed by a letter no smaller
@@ -78,21 +78,19 @@ module _ (w : List ℕ) (n : ℕ) (l : n < length w) where
   with-letter : (k : ℕ) → k ≤ n → drop (n - k) (take (suc n) w) ≡ drop (n - k) (take n w) ++ getD w n 0 ∷ []
   with-letter k h = rw (take-suc w n 0 l, drop-append-le (n - k) (take n w) (getD w n 0 ∷ []) (rw (size w n (omega arith)) (omega arith)))
 
-  front-letter : (k : ℕ) → k < n → (take k w ++ getD w k 0 ∷ []) ⊑ take (suc n) w
-  front-letter k h = rw (take-suc w k 0 (omega arith)) at (take-⊑-take (suc k) (suc n) w (omega arith))
-
   above : {k : ℕ} → BorderOf w n k → getD w k 0 < getD w n 0 → take (suc n) w ≪ drop (n - k) (take (suc n) w)
   above {k} b h =
-      rw (with-letter k (omega (arith, b .shorter)), border-word w n (omega arith) b)
-      (≪-extend (≪-under (take k w) (here h)) (front-letter k (b .shorter)) (⊑-refl _))
+      rw (with-letter k (omega (arith, b .shorter)), border-word w n (omega arith) b) (take-≪-larger k (suc n) w (omega (arith, b .shorter)) l h)
 
   not-above : {k : ℕ} → BorderOf w n k → getD w n 0 ≤ getD w k 0 → drop (n - k) (take (suc n) w) ≤ₗ take (suc n) w
-  not-above {k} b h = rw (with-letter k (omega (arith, b .shorter)), border-word w n (omega arith) b) (go (tri (getD w n 0) (getD w k 0)))
+  not-above {k} b h = rw (with-letter k (omega (arith, b .shorter)), border-word w n (omega arith) b) (go (decLt (getD w n 0) (getD w k 0)))
     where
-      go : Tri (getD w n 0) (getD w k 0) → (take k w ++ getD w n 0 ∷ []) ≤ₗ take (suc n) w
-      go (lt x) = lost (≪-extend (≪-under (take k w) (here x)) (⊑-refl _) (front-letter k (b .shorter)))
-      go (eq x) = pre (rw x (front-letter k (b .shorter)))
-      go (gt x) = absurd (omega arith)
+      next : (take k w ++ getD w k 0 ∷ []) ⊑ take (suc n) w
+      next = take-⊑-next k (suc n) w (omega (arith, b .shorter)) l
+
+      go : Dec (getD w n 0 < getD w k 0) → (take k w ++ getD w n 0 ∷ []) ≤ₗ take (suc n) w
+      go (yes x) = lost (≪-extend (≪-under (take k w) (here x)) (⊑-refl _) next)
+      go (no x) = pre (rw (let e : getD w n 0 ≡ getD w k 0 = omega arith in e) next)
 
 -- ---- the shortest r
 
@@ -119,15 +117,11 @@ module _ (w : List ℕ) (n r : ℕ) (x : Failing w (suc n)) (y : ShortestBorder 
           rw e at (not-above w n (x .inside) c (y .least (n - k) (omega (arith, y .border .shorter)) c))
 
   same-as : {q : ℕ} → Shortest (take (suc n) w) q → q ≡ r
-  same-as {q} z = go (tri q r)
-    where
-      e : length (take (suc n) w) - suc q ≡ n - q
-      e = omega (arith, sizes .0)
-
-      go : Tri q r → q ≡ r
-      go (lt a) = absurd (≤ₗ-not-≪ (shorter-not-above (n - q) (omega (arith, y .border .shorter)) (omega arith)) (rw e at (z .above)))
-      go (eq a) = a
-      go (gt a) = absurd (≤ₗ-not-≪ (z .shorter (n - r) (omega (arith, sizes .0, z .inside))) (above w n (x .inside) (y .border) (y .below)))
+  same-as {q} z =
+      let e : length (take (suc n) w) - suc q ≡ n - q = omega (arith, sizes .0) in
+      neither-less
+      (λ a. ≤ₗ-not-≪ (shorter-not-above (n - q) (omega (arith, y .border .shorter)) (omega arith)) (rw e at (z .above)))
+      (λ a. ≤ₗ-not-≪ (z .shorter (n - r) (omega (arith, sizes .0, z .inside))) (above w n (x .inside) (y .border) (y .below)))
 
   pub shortest-border-length : borderLength w ≡ r
   shortest-border-length =
@@ -155,7 +149,8 @@ pub record Walk (w : List ℕ) (n k : ℕ) : Type 0 where
 pub walk-on : {w : List ℕ} {n k b : ℕ} → n ≤ length w → Walk w n k → Scanned w k b → getD w b 0 < getD w n 0 → Walk w n b
 walk-on {w} {n} l x s h = record { border = border-of-border w n l (x .border) (scanned-border s); below = h }
 
-pub walk-stops : {w : List ℕ} {n k b : ℕ} → n ≤ length w → InverseLyndon (take n w) → Walk w n k → Scanned w k b → getD w n 0 ≤ getD w b 0 → ShortestBorder w n k
+pub walk-stops : {w : List ℕ} {n k b : ℕ} → n ≤ length w → InverseLyndon (take n w) → Walk w n k → Scanned w k b → getD w n 0 ≤ getD w b 0
+    → ShortestBorder w n k
 walk-stops {w} {n} {k} {b} l g x s h = record {
   border = x .border;
   below = x .below;

@@ -2,7 +2,6 @@
 -- and the longest one at j is known: if it comes after w[i..j), both make one (merged-more); else w[i..j) is the longest at i
 -- (merged-stops).
 use mathlib.Core.Path.{_≡_, _∙_}
-use mathlib.Core.Logic.{_⊎_, inl, inr}
 use mathlib.Core.List.{List, _++_}
 use Prim.Native.Nat.{ℕ, _+_, _-_, _≤_, _<_}
 use native.Mathlib.Nat.{le-refl}
@@ -12,21 +11,13 @@ use lib.Seq.{take-length, take-add, length-take-le, drop-drop, drop-cons}
 use Rattle.words.specs.Words.{_≺_, AntiLyndon}
 use Rattle.words.specs.Factorizations.{longestAntiLyndon, cflIn}
 use Rattle.words.specs.Statements.{EqualOrAfter, Next, by, more}
-use Rattle.words.specs.orders.InverseLaws.{_≼_, ≼-refl, ≺-≼, ≺-total}
+use Rattle.words.specs.orders.InverseLaws.{_≼_, not-≺-≼}
 use Rattle.words.specs.lyndon.AntiLyndonLaws.{letter-anti-lyndon, append-anti-lyndon, ≼-equal-or-after, Longest, longest-is, longest-positive, longest-unique}
 use Rattle.words.specs.cfl_in.CflInIs.{cfl-in-is}
 use Rattle.words.specs.cfl_in.CflInUnique.{first-longest}
 use Rattle.words.specs.cfl_in.CflInUnfold.{cfl-in-step}
 
 -- ---- two words
-
-not-before : (x y : List ℕ) → ¬ (x ≺ y) → y ≼ x
-not-before x y n = go (≺-total x y)
-  where
-    go : (x ≺ y) ⊎ ((x ≡ y) ⊎ (y ≺ x)) → y ≼ x
-    go (inl h) = absurd (n h)
-    go (inr (inl e)) = rw e (≼-refl y)
-    go (inr (inr h)) = ≺-≼ h
 
 -- an anti-Lyndon u, followed by v whose first factor comes no later than u, is the longest anti-Lyndon prefix
 pub longest-stops : (u v : List ℕ) → AntiLyndon u → 0 < length v → take (longestAntiLyndon v) v ≼ u → longestAntiLyndon (u ++ v) ≡ length u
@@ -79,7 +70,7 @@ module _ (w : List ℕ) (i j : ℕ) (x : Merged w i j) where
 
   pub merged-stops : j < length w → ¬ (take (j - i) (drop i w) ≺ take (longestAntiLyndon (drop j w)) (drop j w)) → longestAntiLyndon (drop i w) ≡ j - i
   merged-stops l h =
-      let e = longest-stops (take (j - i) (drop i w)) (drop j w) (x .word) (rw length-drop (omega arith)) (not-before _ _ h) in
+      let e = longest-stops (take (j - i) (drop i w)) (drop j w) (x .word) (rw length-drop (omega arith)) (not-≺-≼ _ _ h) in
       rw (suffix, size) at e
 
   pub merged-ends : j ≡ length w → longestAntiLyndon (drop i w) ≡ j - i

@@ -7,16 +7,13 @@ use native.Mathlib.Nat.{le-refl}
 use native.Mathlib.Omega.{arith}
 use lib.ListN.{length, length-append}
 use lib.Seq.{drop-append-seam}
-use Rattle.words.specs.Words.{_⊑_, InverseLyndon}
-use Rattle.words.specs.Statements.{DominatedBy, Next, by, Linked, more}
+use Rattle.words.specs.Words.{_⊑_}
+use Rattle.words.specs.Statements.{DominatedBy, Next, by, more}
 use Rattle.words.specs.orders.PrefixLaws.{⊑-append, ⊑-length, ⊑-whole}
 use Rattle.words.specs.orders.MismatchLaws.{≪-extend}
 use Rattle.words.specs.orders.LexLaws.{≤ₗ-not-≪}
 use Rattle.words.specs.lyndon.WordTests.{suffix-below}
-use Rattle.words.specs.lyndon.Suffixes.{Past, overlap, dominated-at, next-suffix}
-
-abbrev Dominated : List (List ℕ) → Type 0
-Dominated ms = Linked InverseLyndon DominatedBy ms
+use Rattle.words.specs.lyndon.Suffixes.{Past, overlap, Dominated, dominated-at, next-suffix}
 
 -- the first word is a prefix of s
 abbrev BeginsWithin : List (List ℕ) → List ℕ → Type 0

@@ -1,5 +1,5 @@
 -- The bound of icflWithin does not matter: icfl satisfies paper 01's recursive sentence as it stands (source 004, Definition 4.3).
-use mathlib.Core.Path.{_≡_, refl, sym}
+use mathlib.Core.Path.{_≡_, sym}
 use mathlib.Core.List.{List, [], _∷_}
 use Prim.Native.Nat.{ℕ, _<_}
 use lib.ListN.{length, take, drop}
@@ -8,10 +8,6 @@ use Rattle.words.specs.Factorizations.{icfl, joinFirst, prefixLength, bo
 use Rattle.words.specs.icfl.IcflFactors.{whole-factors, step-factors, icfl-factors}
 use Rattle.words.specs.icfl.BorderLength.{step-is}
 use Rattle.words.specs.uniqueness.IcflUnique.{icfl-unique}
-
-pub icfl-empty : icfl [] ≡ []
-unfolding icfl
-icfl-empty = refl
 
 pub icfl-whole : (w : List ℕ) → InverseLyndon w → icfl w ≡ w ∷ []
 icfl-whole w k = let f = whole-factors k in sym (icfl-unique w _ (f .dominated) (f .product))
