@@ -1,27 +1,22 @@
 -- The walk over the factors of the strict cut, over plain lists. What is still to come from a place on are the ends of the strict cut of the rest;
 -- each turn takes one end from it (end-taken).
 use mathlib.Core.Path.{_≡_, refl, ap, sym, _∙_}
-use mathlib.Core.Bool.{Bool, true, false, true≢false, false≢true}
+use mathlib.Core.Bool.{Bool, true, false, true≢false}
 use mathlib.Core.List.{List, [], _∷_, _++_, append-assoc, append-nil}
 use Prim.Native.Nat.{ℕ, _+_, _-_, _≤_, _<_}
 use native.Mathlib.Numerals.{add-one}
 use native.Mathlib.Omega.{arith}
 use lib.ListN.{length, take, drop, set, length-set, length-drop, drop-of-length-le, take-append-drop}
-use lib.Seq.{getD-drop, take-all, take-suc-set, drop-set-lt, drop-drop, length-take-le}
+use lib.Seq.{getD-drop, take-suc-set, drop-set-lt, drop-drop, length-take-le}
+use Rattle.buffers.proofs.BufferLaws.{kept-past}
+use Rattle.buffers.proofs.PartLaws.{rest, rest-is}
 use Rattle.words.specs.Factorizations.{longestAntiLyndon, cflIn, cflInEnds, endsFrom}
 use Rattle.words.specs.cfl_in.CflInUnfold.{cfl-in-empty, cfl-in-step}
 use Rattle.words.specs.scan.Scanned.{Stops, scanned-one, scanned-longest, scanned-after}
 use Rattle.scan.specs.declared.Scan.{Scan}
 use Rattle.scan.specs.State.{startState, Resumes, Rests}
 use Rattle.cfl.specs.declared.Run.{Run}
-use Rattle.cfl.specs.CflIn.{RunAt, Room, storedAs, Walked}
-
--- the part of the word that the code lends
-abbrev rest : List ℕ → ℕ → List ℕ
-rest w from = take (length w - from) (drop from w)
-
-rest-is : (w : List ℕ) (from : ℕ) → rest w from ≡ drop from w
-rest-is w from = take-all (length w - from) (drop from w) (rw (length-drop from w) (omega arith))
+use Rattle.cfl.specs.CflIn.{RunAt, Room, Walked}
 
 -- ---- one factor, and its repetitions
 
@@ -56,15 +51,15 @@ module _ {w : List ℕ} {from : ℕ} {r : Run} (t : RunAt w from r) where
         });
       }
 
-pub run-resumes : (w : List ℕ) (from : ℕ) (s : Scan) → length w ≤ 4096 → from < length w → s ≡ startState → Resumes (rest w from) s
-run-resumes w from s h l e = rw (rest-is w from, e) (record { short = rw length-drop (omega arith); scanned = scanned-one _ (rw length-drop (omega arith)) })
+pub run-resumes : (w : List ℕ) (from : ℕ) (s : Scan) → length w ≤ 4096 → from < length w → s ≡ startState → Resumes (rest from w) s
+run-resumes w from s h l e = rw (rest-is from w, e) (record { short = rw length-drop (omega arith); scanned = scanned-one _ (rw length-drop (omega arith)) })
 
-pub run-scanned : (w : List ℕ) (from : ℕ) (s : Scan) → Rests (rest w from) s
+pub run-scanned : (w : List ℕ) (from : ℕ) (s : Scan) → Rests (rest from w) s
     → RunAt w from (record { length = s .length - s .border; until = from + s .border + 1 })
 run-scanned w from s t =
     let q : from + s .border + 1 - 1 - from ≡ s .border = omega arith in
     let m : s .border + (s .length - s .border) ≡ s .length = omega (arith, t .scanned .shorter) in
-    record { before = omega arith; rests = rw (q, m) (rw (rest-is w from) at t) }
+    record { before = omega arith; rests = rw (q, m) (rw (rest-is from w) at t) }
 
 -- ---- the ends that are still to come
 
@@ -79,30 +74,24 @@ none-left : (w : List ℕ) (from : ℕ) → length w ≤ from → endsLeft w fro
 unfolding endsFrom
 none-left w from l = rw (drop-of-length-le w {i = from} l, cfl-in-empty)
 
-end-taken : (w : List ℕ) (from : ℕ) (l : from < length w) (r : Run) → RunAt w from r → endsLeft w from ≡ (from + r .length) ∷ endsLeft w (from + r .length)
+end-taken : {w : List ℕ} {from : ℕ} {r : Run} → RunAt w from r → from < length w → endsLeft w from ≡ (from + r .length) ∷ endsLeft w (from + r .length)
 unfolding endsFrom
-end-taken w from l r t =
+end-taken {w} {from} {r} t l =
     let inside : r .length ≤ length (drop from w) = omega (arith, run-inside t l, length-drop from w) in
     let size : length (take (r .length) (drop from w)) ≡ r .length = length-take-le (r .length) (drop from w) inside in
     rw (cfl-in-step (drop from w) (rw length-drop (omega arith)), run-longest t, size, drop-drop (r .length) from w)
 
 -- ---- the loop
 
--- entries 0 to count hold the ends so far, and the rest is as it was
-pub record Stored (w buffer₀ buffer : List ℕ) (from count : ℕ) : Type 0 where
-  pub content : take count buffer ++ endsLeft w from ≡ cflInEnds w
-  pub kept : drop count buffer ≡ drop count buffer₀
-
-abbrev pub Content : Bool → List ℕ → List ℕ → List ℕ → ℕ → ℕ → Type 0
-Content true w buffer₀ buffer from count = Stored w buffer₀ buffer from count
-Content false w buffer₀ buffer from count = buffer ≡ buffer₀
-
+-- count ends are found, those of the factors before from; entries 0 to count hold them, if they are stored, and the later ones are as they were
 pub record Walking (w buffer₀ buffer : List ℕ) (store : Bool) (run : Run) (from count : ℕ) : Type 0 where
   pub inside : from ≤ length w
   pub few : count ≤ from
   pub run-right : from < run .until → RunAt w from run
   pub number : count + length (endsLeft w from) ≡ length (cflInEnds w)
-  pub content : Content store w buffer₀ buffer from count
+  pub content : store ≡ true → take count buffer ++ endsLeft w from ≡ cflInEnds w
+  pub untouched : store ≡ false → buffer ≡ buffer₀
+  pub later : drop count buffer ≡ drop count buffer₀
   pub long : length buffer ≡ length buffer₀
 
 pub walk-start : (w buffer : List ℕ) (store : Bool) → Walking w buffer buffer store (record { length = 0; until = 0 }) 0 0
@@ -111,55 +100,47 @@ walk-start w buffer store = record {
   few = omega arith;
   run-right = λ l. absurd (omega arith);
   number = rw (all-left w) (omega arith);
-  content = go store;
+  content = λ e. all-left w;
+  untouched = λ e. refl;
+  later = refl;
   long = refl;
 }
-  where
-    go : (t : Bool) → Content t w buffer buffer 0 0
-    go true = record { content = all-left w; kept = refl }
-    go false = refl
 
-module _ (w buffer₀ buffer : List ℕ) (s : Run) (from count : ℕ) (l : from < length w) (r : Run) (t : RunAt w from r) where
-  turn : (buffer′ : List ℕ) (store : Bool) → Walking w buffer₀ buffer store s from count
-      → Content store w buffer₀ buffer′ (from + r .length) (count + 1) → length buffer′ ≡ length buffer
-      → Walking w buffer₀ buffer′ store r (from + r .length) (count + 1)
-  turn buffer′ store g x y = record {
-    inside = run-inside t l;
-    few = omega (arith, g .few, run-positive t);
-    run-right = run-again t;
-    number = omega (arith, g .number, ap length (end-taken w from l r t));
-    content = x;
-    long = y ∙ g .long;
-  }
+module _ {w buffer₀ buffer : List ℕ} {store : Bool} {s : Run} {from count : ℕ} (g : Walking w buffer₀ buffer store s from count) where
+  module _ (l : from < length w) {r : Run} (t : RunAt w from r) where
+    turn : (buffer′ : List ℕ) → (store ≡ true → take (count + 1) buffer′ ++ endsLeft w (from + r .length) ≡ cflInEnds w)
+        → (store ≡ false → buffer′ ≡ buffer₀) → drop (count + 1) buffer′ ≡ drop (count + 1) buffer → length buffer′ ≡ length buffer
+        → Walking w buffer₀ buffer′ store r (from + r .length) (count + 1)
+    turn buffer′ x u d y = record {
+      inside = run-inside t l;
+      few = omega (arith, g .few, run-positive t);
+      run-right = run-again t;
+      number = omega (arith, g .number, ap length (end-taken t l));
+      content = x;
+      untouched = u;
+      later = d ∙ kept-past count (count + 1) buffer buffer₀ (omega arith) (g .later);
+      long = y ∙ g .long;
+    }
 
-  pub walk-room : (store : Bool) → Walking w buffer₀ buffer store s from count → Room w buffer₀ store → store ≡ true → count < length buffer
-  walk-room store g m e = omega (arith, g .number, g .long, m .entries e, ap length (end-taken w from l r t))
+    pub walk-room : Room w buffer₀ store → store ≡ true → count < length buffer
+    walk-room m e = omega (arith, g .number, g .long, m .entries e, ap length (end-taken t l))
 
-  pub walk-counts : (store : Bool) → store ≡ false → Walking w buffer₀ buffer store s from count
-      → Walking w buffer₀ buffer store r (from + r .length) (count + 1)
-  walk-counts true e g = absurd (true≢false e)
-  walk-counts false e g = turn buffer false g (g .content) refl
+    pub walk-counts : store ≡ false → Walking w buffer₀ buffer store r (from + r .length) (count + 1)
+    walk-counts e = turn buffer (λ z. absurd (true≢false (sym z ∙ e))) (g .untouched) refl refl
 
-  pub walk-stores : (store : Bool) → store ≡ true → Walking w buffer₀ buffer store s from count → count < length buffer
-      → Walking w buffer₀ (set buffer count (from + r .length)) store r (from + r .length) (count + 1)
-  walk-stores false e g m = absurd (false≢true e)
-  walk-stores true e g m = turn (set buffer count end) true g (record {
-    content = rw (add-one count, take-suc-set buffer count end m, append-assoc) (rw (end-taken w from l r t) at (g .content .content));
-    kept = drop-set-lt (count + 1) buffer count end (omega arith) ∙ (sym (drop-drop 1 count buffer) ∙ ap (drop 1) (g .content .kept) ∙ drop-drop 1 count buffer₀);
-  }) (length-set buffer count end)
-    where
-      end : ℕ
-      end = from + r .length
+    pub walk-stores : store ≡ true → count < length buffer → Walking w buffer₀ (set buffer count (from + r .length)) store r (from + r .length) (count + 1)
+    walk-stores e m = let end = from + r .length in
+        turn (set buffer count end)
+        (λ z. rw (add-one count, take-suc-set buffer count end m, append-assoc) (rw (end-taken t l) at (g .content e)))
+        (λ z. absurd (true≢false (sym e ∙ z))) (drop-set-lt (count + 1) buffer count end (omega arith)) (length-set buffer count end)
 
-pub walk-ends : (w buffer₀ buffer : List ℕ) (store : Bool) (s : Run) (from count : ℕ)
-    → Walking w buffer₀ buffer store s from count → length w ≤ from → Walked w buffer₀ store count buffer
-walk-ends w buffer₀ buffer store s from count g l = record { count = n; result = go store (g .content) }
-  where
-    n : count ≡ length (cflInEnds w)
-    n = omega (arith, g .number, ap length (none-left w from l))
-
-    go : (t : Bool) → Content t w buffer₀ buffer from count → buffer ≡ storedAs t (cflInEnds w) buffer₀
-    go false e = e
-    go true x =
-        let e : take count buffer ≡ cflInEnds w = sym (append-nil (take count buffer)) ∙ (rw (none-left w from l) at (x .content)) in
-        sym (take-append-drop count buffer) ∙ rw (e, x .kept, n)
+  pub walk-ends : length w ≤ from → Walked w buffer₀ store count buffer
+  walk-ends l =
+      let n : count ≡ length (cflInEnds w) = omega (arith, g .number, ap length (none-left w from l)) in
+      record {
+        count = n;
+        stored = λ e.
+            let x : take count buffer ≡ cflInEnds w = sym (append-nil (take count buffer)) ∙ (rw (none-left w from l) at (g .content e)) in
+            sym (take-append-drop count buffer) ∙ rw (x, g .later, n);
+        kept = g .untouched;
+      }

@@ -4,17 +4,18 @@ use mathlib.Core.Bool.{Bool, true, false}
 use mathlib.Core.List.{List, [], _∷_, _++_}
 use Prim.Native.Nat.{ℕ, _+_, _-_, _≤_, _<_}
 use lib.ListN.{length, drop}
+use Rattle.buffers.specs.Buffers.{written}
 use Rattle.words.specs.Factorizations.{cflInEnds}
 use Rattle.scan.specs.State.{Rests}
-use Rattle.checks.specs.Refusals.{recordRefusal, resultRefusal}
-use Rattle.checks.specs.Answers.{checkedAs, Filled}
+use Rattle.checks.specs.Lines.{Line, tried, recordLines, resultLine}
+use Rattle.checks.specs.Answers.{Filled}
 use Rattle.checks.specs.declared.Checked.{Checked}
 use Rattle.checks.specs.declared.Counted.{Counted}
 use Rattle.cfl.specs.declared.Run.{Run}
 
 -- the lines of the table that the strict cut tries: 1, 2 and 4
-abbrev pub cflInLines : List ℕ → ℕ → List ℕ
-cflInLines w entries = recordRefusal w ∷ resultRefusal entries (length (cflInEnds w)) ∷ []
+abbrev pub cflInLines : List ℕ → ℕ → List Line
+cflInLines w entries = recordLines w ++ resultLine entries (length (cflInEnds w)) ∷ []
 
 -- the call's promise: its answer, and the result buffer whole
 abbrev pub CflInDone : List ℕ → List ℕ → Counted → List ℕ → Type 0
@@ -36,16 +37,12 @@ pub record Room (w buffer : List ℕ) (store : Bool) : Type 0 where
   pub short : length w ≤ 4096
   pub entries : store ≡ true → length (cflInEnds w) ≤ length buffer
 
--- the ends, stored or not
-abbrev pub storedAs : Bool → List ℕ → List ℕ → List ℕ
-storedAs true vs buffer = vs ++ drop (length vs) buffer
-storedAs false vs buffer = buffer
-
 pub record Walked (w buffer : List ℕ) (store : Bool) (r : ℕ) (buffer′ : List ℕ) : Type 0 where
   pub count : r ≡ length (cflInEnds w)
-  pub result : buffer′ ≡ storedAs store (cflInEnds w) buffer
+  pub stored : store ≡ true → buffer′ ≡ written (cflInEnds w) buffer
+  pub kept : store ≡ false → buffer′ ≡ buffer
 
 -- line 4, with the buffer as it was
 pub record RoomChecked (w buffer : List ℕ) (r : Checked) (buffer′ : List ℕ) : Type 0 where
-  pub answer : r ≡ checkedAs (resultRefusal (length buffer) (length (cflInEnds w)))
+  pub answer : r ≡ tried (resultLine (length buffer) (length (cflInEnds w)) ∷ [])
   pub kept : buffer′ ≡ buffer

@@ -67,9 +67,9 @@ fn check_room(word: &[u8], ends: &mut [u16]) -> Checked
 pub fn cfl_in(word: &[u8], ends: &mut [u16]) -> Counted
     ensures { λ r. ⌜ CflInDone (now (word .entry)) (now (ends .entry)) r (now (ends .exit)) ⌝ }
 {
-    let checked = checks::check_record(word);
-    let Checked::Passed = checked else {
-        return Counted::Refused(checked.number());
+    let admitted = checks::check_record(word);
+    let Checked::Passed = admitted else {
+        return Counted::Refused(admitted.number());
     };
     let room = check_room(word, ends);
     let Checked::Passed = room else {

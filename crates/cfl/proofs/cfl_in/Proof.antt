@@ -1,24 +1,26 @@
 -- The checks, then the walk that stores the ends.
 use borrow.Author.Needs.{needs}
-use mathlib.Core.Path.{_≡_}
-use native.Mathlib.Omega.{arith}
-use Rattle.checks.proofs.RefusalLaws.{passed, refused, number-is, record-accepted, result-accepted}
-use Rattle.checks.specs.Refusals.{recordRefusal, resultRefusal}
-use Rattle.words.specs.Factorizations.{cflInEnds}
+use mathlib.Core.Path.{_≡_, refl}
 use lib.ListN.{length}
-use Rattle.cfl.proofs.CflInCases.{record-refused, result-refused, ends-written}
-use borrow.Author.Needs.{needs}
+use Rattle.checks.specs.declared.Checked.the-variants.{Passed}
+use Rattle.checks.specs.Lines.{tried, recordLines}
+use Rattle.checks.proofs.LineLaws.{passed, refused-first, passed-first, filled-refused, filled-done}
+use Rattle.checks.proofs.RecordLaws.{Accepted, accepted, enough}
+use Rattle.cfl.specs.CflIn.{cflInLines}
 use Rattle.cfl.proofs.cfl_in.Statement.{statement}
 use Rattle.cfl.proofs.cfl_in.Tie as tie
 
--- past the check of the record, and past line 4
-passed-at : (c : tie.After-enum-told) → recordRefusal (c .before .before .before .before .before .args .word .now) ≡ 0
-passed-at c = passed _ _ (c .before .before .check-record .ensures) (c .before .match .keys1)
+-- past lines 1 and 2
+admitted-at : (c : tie.After-enum-told) → tried (recordLines (c .before .before .before .before .before .args .word .now)) ≡ Passed
+admitted-at c = passed _ (c .before .before .check-record .ensures) (c .before .match .keys1)
 
-roomy-at : (c : tie.After-enum-told3)
-    → (let a = c .before .before .before .before .before .before .before .before .before .before .before .args in
-    resultRefusal (length (a .ends .now)) (length (cflInEnds (a .word .now))) ≡ 0)
-roomy-at c = passed _ _ (c .before .before .before .before .check-room .ensures .answer) (c .before .match2 .keys1)
+accepted-at : (c : tie.After-enum-told) → Accepted (c .before .before .before .before .before .args .word .now)
+accepted-at c = accepted _ (admitted-at c)
+
+-- line 4 was tried after them
+tried-at : (c : tie.After-check-room) → let a = c .before .before .before .before .before .before .before .args in
+    c .check-room .result ≡ tried (cflInLines (a .word .now) (length (a .ends .now)))
+tried-at c = passed-first _ _ (admitted-at (c .before .before)) (c .check-room .ensures .answer)
 
 check-record-requires : tie.Need-check-record-requires
 check-record-requires c κs = search needs
@@ -34,11 +36,11 @@ number-requires c κs = search needs
 
 returns : tie.Need-returns
 returns c =
-    let call = c .before .before .before .check-record in
-    record-refused _ _ _ (number-is _ _ _ (call .ensures) (c .number .ensures)) (refused _ _ (call .ensures) (c .before .before .match .keys2))
+    let is-refused = c .before .before .match .keys2 in
+    filled-refused _ _ _ (refused-first _ _ (c .before .before .before .check-record .ensures) is-refused) is-refused (c .number .ensures)
 
 check-room-requires : tie.Need-check-room-requires
-check-room-requires c κs = record-accepted _ (passed-at (c .before)) .short
+check-room-requires c κs = accepted-at (c .before) .short
 
 enum-told-3 : tie.Need-enum-told-3
 enum-told-3 c = search needs
@@ -54,16 +56,16 @@ same-length c = search needs
 
 returns-2 : tie.Need-returns-2
 returns-2 c =
-    let room = c .before .before .before .before .before .check-room .ensures in
-    result-refused _ _ (passed-at (c .before .before .before .before .before .before .before)) _ (room .kept) _
-    (number-is _ _ _ (room .answer) (c .number2 .ensures)) (refused _ _ (room .answer) (c .before .before .match2 .keys2))
+    let at-room = c .before .before .before .before .before in
+    rw (at-room .check-room .ensures .kept) (filled-refused _ _ _ (tried-at at-room) (c .before .before .match2 .keys2) (c .number2 .ensures))
 
 walk-requires : tie.Need-walk-requires
 walk-requires c κs =
-    let room = c .before .before .before .before .before .check-room in
+    let at-room = c .before .before .before .before .before in
+    let room = at-room .check-room .ensures in
     record {
-      short = record-accepted _ (passed-at (c .before .before .before .before .before .before .before)) .short;
-      entries = λ e. omega (arith, result-accepted _ _ (roomy-at (c .before)), room .kept);
+      short = accepted-at (at-room .before .before) .short;
+      entries = λ e. rw (room .kept) (enough 4 _ _ (passed _ (room .answer) (c .before .before .match2 .keys1)));
     }
 
 same-length-2 : tie.Need-same-length-2
@@ -71,24 +73,13 @@ same-length-2 c = search needs
 
 returns-3 : tie.Need-returns-3
 returns-3 c =
-    let room = c .before .before .before .before .before .before .before .before in
-    ends-written _ _ (passed-at (room .before .before)) _ _ _ (room .check-room .ensures .kept) (roomy-at (c .before .before .before .before)) (c .before .before .walk .ensures)
+    let at-match = c .before .before .before .before .before in
+    let at-room = at-match .before .before .before in
+    let walk = c .before .before .walk .ensures in
+    filled-done (passed _ (tried-at at-room) (at-match .match2 .keys1)) (walk .count) (rw (at-room .check-room .ensures .kept) at (walk .stored refl))
 
 pub cfl-in-spec : {M : Type 1} → statement M
 cfl-in-spec =
     tie.close
-    (tie.spec
-    check-record-requires
-    enum-told
-    enum-told-2
-    number-requires
-    returns
-    check-room-requires
-    enum-told-3
-    enum-told-4
-    number-requires-2
-    same-length
-    returns-2
-    walk-requires
-    same-length-2
-    returns-3)
+    (tie.spec check-record-requires enum-told enum-told-2 number-requires returns check-room-requires enum-told-3 enum-told-4
+    number-requires-2 same-length returns-2 walk-requires same-length-2 returns-3)

@@ -1,8 +1,7 @@
 use borrow.Author.Needs.{needs}
 use mathlib.Core.Path.{sym}
 use mathlib.Core.Bool.{true≢false}
-use Rattle.cfl.proofs.CflInCases.{room-at-once, room-counted}
-use borrow.Author.Needs.{needs}
+use Rattle.cfl.proofs.RoomLaws.{room-at-once, room-counted}
 use Rattle.cfl.proofs.check_room.Statement.{statement}
 use Rattle.cfl.proofs.check_room.Tie as tie
 
@@ -19,7 +18,7 @@ same-length : tie.Need-same-length
 same-length c = search needs
 
 returns-2 : tie.Need-returns-2
-returns-2 c = room-counted _ _ _ _ _ (c .before .before .before .walk .ensures) (c .check-result .ensures)
+returns-2 c = room-counted (c .before .before .before .walk .ensures) (c .check-result .ensures)
 
 pub check-room-spec : {M : Type 1} → statement M
 check-room-spec =

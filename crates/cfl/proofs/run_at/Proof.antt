@@ -1,12 +1,8 @@
 -- A run that is not known is scanned for.
-use Rattle.cfl.proofs.Walking.{run-resumes, run-scanned}
 use borrow.Author.Needs.{needs}
+use Rattle.cfl.proofs.Walking.{run-resumes, run-scanned}
 use Rattle.cfl.proofs.run_at.Statement.{statement}
 use Rattle.cfl.proofs.run_at.Tie as tie
-use Rattle.cfl.proofs.run_at.Reads as reads
-use Rattle.cfl.proofs.run_at.Lts as lts
-use Rattle.scan.proofs.Scan.start.Reads as start-reads
-use Rattle.scan.proofs.scan_on.Reads as scan-on-reads
 
 returns : tie.Need-returns
 returns c = c .before .before .before .pre .right (c .if1 .taken)
@@ -25,8 +21,8 @@ part-scan-on-end c = search needs
 
 scan-on-requires : tie.Need-scan-on-requires
 scan-on-requires c κs =
-    let x = c .before .before .before .before .before in
-    run-resumes (x .args .word .now) (x .args .from) _ (x .pre .short) (x .pre .inside) (c .before .start .ensures)
+    let start = c .before .before .before .before .before in
+    run-resumes (start .args .word .now) (start .args .from) _ (start .pre .short) (start .pre .inside) (c .before .start .ensures)
 
 sub-t9 : tie.Need-sub-t9
 sub-t9 c = search needs
@@ -39,20 +35,10 @@ add-t13 c = search needs
 
 returns-2 : tie.Need-returns-2
 returns-2 c =
-    let x = c .before .before .before .before .before .before .before in
-    run-scanned (x .args .word .now) (x .args .from) _ (c .before .scan-on .ensures)
+    let start = c .before .before .before .before .before .before .before in
+    run-scanned (start .args .word .now) (start .args .from) _ (c .before .scan-on .ensures)
 
 pub run-at-spec : {M : Type 1} → statement M
 run-at-spec =
     tie.close
-    (tie.spec
-    returns
-    start-requires
-    sub-scan-on
-    part-scan-on-start
-    part-scan-on-end
-    scan-on-requires
-    sub-t9
-    add-t12
-    add-t13
-    returns-2)
+    (tie.spec returns start-requires sub-scan-on part-scan-on-start part-scan-on-end scan-on-requires sub-t9 add-t12 add-t13 returns-2)

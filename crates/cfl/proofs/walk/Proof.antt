@@ -9,9 +9,6 @@ use lib.ListN.{length}
 use Rattle.cfl.proofs.Walking.{Walking, walk-start, run-inside, run-positive, walk-room, walk-counts, walk-stores, walk-ends}
 use Rattle.cfl.proofs.walk.Statement.{statement}
 use Rattle.cfl.proofs.walk.Tie as tie
-use Rattle.cfl.proofs.walk.Reads as reads
-use Rattle.cfl.proofs.walk.Lts as lts
-use Rattle.cfl.proofs.run_at.Reads as run-at-reads
 
 abbrev Inv-loop : tie.InvT-loop
 Inv-loop word ends₀ store run₀ from₀ count₀ ends run from count = Walking word ends₀ ends store run from count
@@ -26,11 +23,9 @@ inside-at c = run-inside (c .run-at .ensures) (c .before .loop-test .taken)
 
 room-at : (c : tie.After-run-at Inv-loop μ-loop)
     → c .before .before .before .before .before .args .store ≡ true → c .before .before .loop .count < length (c .before .before .loop .ends)
-room-at c e =
-    let at = c .before .before in
-    let x = at .before .before .before in
-    walk-room (x .args .word .now) (x .args .ends .now) (at .loop .ends) (at .loop .run) (at .loop .from) (at .loop .count) (c .before .loop-test .taken)
-    (c .run-at .result) (c .run-at .ensures) (x .args .store) (at .loop .inv) (x .pre) e
+room-at c =
+    let turn = c .before .before in
+    walk-room (turn .loop .inv) (c .before .loop-test .taken) (c .run-at .ensures) (turn .before .before .before .pre)
 
 loop-holds : tie.Need-loop-holds Inv-loop μ-loop
 loop-holds c = walk-start _ _ _
@@ -42,7 +37,9 @@ add-from : tie.Need-add-from Inv-loop μ-loop
 add-from c = omega (arith, inside-at (c .before))
 
 cast-ends : tie.Need-cast-ends Inv-loop μ-loop
-cast-ends c = omega (arith, inside-at (c .before .before), c .before .before .before .before .before .before .before .pre .short)
+cast-ends c =
+    let at-run = c .before .before in
+    omega (arith, inside-at at-run, at-run .before .before .before .before .before .pre .short)
 
 mul-ends : tie.Need-mul-ends Inv-loop μ-loop
 mul-ends c = search needs
@@ -51,44 +48,32 @@ slice-write-ends : tie.Need-slice-write-ends Inv-loop μ-loop
 slice-write-ends c = room-at (c .before .before) (c .if1 .taken)
 
 add-count : tie.Need-add-count Inv-loop μ-loop
-add-count c = omega (arith, inside-at (c .before .before), c .before .before .before .before .before .before .before .pre .short, c .before .before .before .before .loop .inv .few)
+add-count c =
+    let at-run = c .before .before in
+    let turn = at-run .before .before in
+    omega (arith, inside-at at-run, turn .before .before .before .pre .short, turn .loop .inv .few)
 
 loop-less : tie.Need-loop-less Inv-loop μ-loop
 loop-less c = omega (arith, inside-at (c .before .before), run-positive (c .before .before .run-at .ensures))
 
 loop-again : tie.Need-loop-again Inv-loop μ-loop
 loop-again c =
-    let call = c .before .before in
-    let at = call .before .before in
-    let x = at .before .before .before in
-    let more = call .before .loop-test .taken in
+    let at-run = c .before .before in
+    let inv = at-run .before .before .loop .inv in
+    let more = at-run .before .loop-test .taken in
     ⊎-elim
-    (λ t. rw (t .1) (walk-stores (x .args .word .now) (x .args .ends .now) (at .loop .ends) (at .loop .run) (at .loop .from) (at .loop .count) more (call .run-at .result)
-    (call .run-at .ensures) (x .args .store) (t .0 .taken) (at .loop .inv) (room-at call (t .0 .taken))))
-    (λ t. rw (t .1) (walk-counts (x .args .word .now) (x .args .ends .now) (at .loop .ends) (at .loop .run) (at .loop .from) (at .loop .count) more (call .run-at .result)
-    (call .run-at .ensures) (x .args .store) (t .0 .left) (at .loop .inv)))
+    (λ t. rw (t .1) (walk-stores inv more (at-run .run-at .ensures) (t .0 .taken) (room-at at-run (t .0 .taken))))
+    (λ t. rw (t .1) (walk-counts inv more (at-run .run-at .ensures) (t .0 .left)))
     (c .if1 .came)
 
 same-length : tie.Need-same-length Inv-loop μ-loop
 same-length c = search needs
 
 returns : tie.Need-returns Inv-loop μ-loop
-returns c = walk-ends _ _ _ _ _ _ _ (c .before .loop .inv) (c .loop-test .left)
+returns c = walk-ends (c .before .loop .inv) (c .loop-test .left)
 
 pub walk-spec : {M : Type 1} → statement M
 walk-spec =
     tie.close
-    (tie.spec
-    Inv-loop
-    μ-loop
-    loop-holds
-    run-at-requires
-    add-from
-    cast-ends
-    mul-ends
-    slice-write-ends
-    add-count
-    loop-less
-    loop-again
-    same-length
-    returns)
+    (tie.spec Inv-loop μ-loop loop-holds run-at-requires add-from cast-ends mul-ends slice-write-ends add-count loop-less loop-again
+    same-length returns)
