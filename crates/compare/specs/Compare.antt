@@ -1,19 +1,17 @@
 -- DEFINITIONS. What the comparison answers.
-use mathlib.Core.List.{List, [], _∷_}
-use Prim.Native.Nat.{ℕ, zero, suc}
+use mathlib.Core.Path.{_≡_}
+use mathlib.Core.List.{List, [], _∷_, _++_}
+use Prim.Native.Nat.{ℕ}
 use lib.ListN.{length}
-use lib.IntN.{ℤ}
-use Rattle.checks.specs.Refusals.{firstRefusal, recordRefusal, rangeRefusal, startRefusal}
+use Rattle.words.specs.Words.{sign}
+use Rattle.checks.specs.Lines.{Line, _unless_then_, recordLines, rangeLine, startLine}
 use Rattle.compare.specs.declared.suffixes.Comparison.{Comparison}
 use Rattle.compare.specs.declared.suffixes.Comparison.the-variants.{Sign, Refused}
 
--- the lines of the table that the comparison tries, in order: the record, the range, the one start, the other
-unfoldable pub compareRefusal : List ℕ → ℕ → ℕ → ℕ → ℕ → ℕ
-unfolding recordRefusal rangeRefusal startRefusal
-compareRefusal w first end start other =
-    firstRefusal (recordRefusal w ∷ rangeRefusal (length w) first end ∷ startRefusal first end start ∷ startRefusal first end other ∷ [])
+-- 1, 2, 5 and 6, the last for each of the two starts
+abbrev pub compareLines : List ℕ → ℕ → ℕ → ℕ → ℕ → List Line
+compareLines w first end start other = recordLines w ++ rangeLine (length w) first end ∷ startLine first end start ∷ startLine first end other ∷ []
 
--- the case for a refusal's number, 0 for none, and a sign
-abbrev pub comparisonAs : ℕ → ℤ → Comparison
-comparisonAs zero s = Sign s
-comparisonAs (suc e) s = Refused (suc e)
+-- the comparison's promise
+pub record Compared (w : List ℕ) (first end start other : ℕ) (r : Comparison) : Type 0 where
+  pub answer : r ≡ Sign (sign w first end start other) unless compareLines w first end start other then Refused

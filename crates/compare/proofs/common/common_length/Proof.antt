@@ -39,30 +39,19 @@ loop-less c = search needs
 
 loop-again : tie.Need-loop-again Inv-loop μ-loop
 loop-again c =
-    let b = c .before .before .before in
-    let m = b .before .before .before .shorter .ensures in
-    matched-more _ _ _ (b .before .loop .inv) (omega (arith, b .loop-test .taken)) (omega (arith, b .loop-test .taken)) (omega arith)
+    let turn = c .before .before .before in
+    let least = turn .before .before .before .shorter .ensures in
+    matched-more _ _ _ (turn .before .loop .inv) (omega (arith, turn .loop-test .taken)) (omega (arith, turn .loop-test .taken)) (omega arith)
 
 returns-2 : tie.Need-returns-2 Inv-loop μ-loop
 returns-2 c =
     let inv = c .before .loop .inv in
-    let m = c .before .before .before .shorter .ensures in
-    let whole : c .before .loop .l ≡ c .before .before .before .shorter .result = omega (arith, m, inv .left, inv .right, c .loop-test .left) in
-    rw whole at (agree-unique _ _ _ (record { matched = inv; differ = λ h k. absurd (omega (arith, m)) }))
+    let least = c .before .before .before .shorter in
+    let whole : c .before .loop .l ≡ least .result = omega (arith, least .ensures, inv .left, inv .right, c .loop-test .left) in
+    rw whole at (agree-unique _ _ _ (record { matched = inv; differ = λ h k. absurd (omega (arith, least .ensures)) }))
 
 pub common-length-spec : {M : Type 1} → statement M
 common-length-spec =
     tie.close
-    (tie.spec
-    Inv-loop
-    μ-loop
-    shorter-requires
-    skip-fours-requires
-    loop-holds
-    shared-slice-read-if1
-    shared-slice-read-if1-2
-    returns
-    add-l
-    loop-less
-    loop-again
-    returns-2)
+    (tie.spec Inv-loop μ-loop shorter-requires skip-fours-requires loop-holds shared-slice-read-if1 shared-slice-read-if1-2 returns add-l
+    loop-less loop-again returns-2)

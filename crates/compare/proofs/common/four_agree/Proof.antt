@@ -52,19 +52,5 @@ returns c = four-decides _ _ _
 pub four-agree-spec : {M : Type 1} → statement M
 four-agree-spec =
     tie.close
-    (tie.spec
-    shared-slice-read-near
-    shared-slice-read-near-2
-    add-near
-    shared-slice-read-near-3
-    add-near-2
-    shared-slice-read-near-4
-    add-far
-    shared-slice-read-far
-    add-far-2
-    shared-slice-read-far-2
-    add-far-3
-    shared-slice-read-far-3
-    add-far-4
-    shared-slice-read-far-4
-    returns)
+    (tie.spec shared-slice-read-near shared-slice-read-near-2 add-near shared-slice-read-near-3 add-near-2 shared-slice-read-near-4 add-far
+    shared-slice-read-far add-far-2 shared-slice-read-far-2 add-far-3 shared-slice-read-far-3 add-far-4 shared-slice-read-far-4 returns)

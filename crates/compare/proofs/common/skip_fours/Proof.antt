@@ -4,8 +4,8 @@ use Prim.Native.Nat.{_+_, _-_}
 use native.Mathlib.Omega.{arith}
 use borrow.Author.Tests.{not-false}
 use Rattle.words.specs.orders.Decisions.{decides-true}
-use Rattle.compare.specs.Steps.{BothHave}
 use Rattle.words.specs.orders.CommonLength.{Matched, matched-none}
+use Rattle.compare.specs.Steps.{BothHave}
 use Rattle.compare.proofs.FourLaws.{four-more}
 use Rattle.compare.proofs.common.skip_fours.Statement.{statement}
 use Rattle.compare.proofs.common.skip_fours.Tie as tie
@@ -19,8 +19,8 @@ abbrev μ-loop : tie.MeasureT-loop
 -- four letters are left of both words
 more : (c : tie.In-loop Inv-loop μ-loop) → let a = c .before .before .before .before .before .args in BothHave (a .x .now) (a .y .now) (c .before .loop .l + 4)
 more c =
-    let m = c .before .before .shorter .ensures in
-    record { left = omega (arith, m, c .loop-test .taken); right = omega (arith, m, c .loop-test .taken) }
+    let least = c .before .before .shorter .ensures in
+    record { left = omega (arith, least, c .loop-test .taken); right = omega (arith, least, c .loop-test .taken) }
 
 shorter-requires : tie.Need-shorter-requires Inv-loop μ-loop
 shorter-requires c κs = search needs
@@ -54,15 +54,4 @@ returns-2 c = c .before .loop .inv
 pub skip-fours-spec : {M : Type 1} → statement M
 skip-fours-spec =
     tie.close
-    (tie.spec
-    Inv-loop
-    μ-loop
-    shorter-requires
-    loop-holds
-    sub-loop
-    four-agree-requires
-    returns
-    add-l
-    loop-less
-    loop-again
-    returns-2)
+    (tie.spec Inv-loop μ-loop shorter-requires loop-holds sub-loop four-agree-requires returns add-l loop-less loop-again returns-2)
