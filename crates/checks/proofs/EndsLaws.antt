@@ -10,43 +10,34 @@ use lib.ListN.{length, drop, getD, drop-of-length-le}
 use lib.Seq.{drop-cons}
 use lib.Dec.{eqb}
 use Rattle.words.specs.orders.Decisions.{Decides, holds, fails, leb-test, eqb-test, decides-map, decides-true}
-use Rattle.words.specs.places.EndsRise.{RisesTo, there, later}
+use Rattle.words.specs.places.EndsRise.{Rises, done, more, rises-head, rises-tail, rises-end}
 use Rattle.checks.specs.Lines.{rising, lastOf, faultyEnds}
-
-rises-head : {n a e : ℕ} {es : List ℕ} → RisesTo n a (e ∷ es) → a < e
-rises-head (later h r) = h
-
-rises-tail : {n a e : ℕ} {es : List ℕ} → RisesTo n a (e ∷ es) → RisesTo n e es
-rises-tail (later h r) = r
-
-rises-end : {n a : ℕ} → RisesTo n a [] → a ≡ n
-rises-end (there e) = e
 
 -- ---- the definition decides it
 
-rises-test : (n a : ℕ) (es : List ℕ) → Decides (RisesTo n a es) (rising (a ∷ es) && eqb (lastOf a es) n)
+rises-test : (n a : ℕ) (es : List ℕ) → Decides (Rises n a es) (rising (a ∷ es) && eqb (lastOf a es) n)
 unfolding rising lastOf
-rises-test n a [] = decides-map (λ e. there e) (λ r. rises-end r) (eqb-test a n)
+rises-test n a [] = decides-map (λ e. done e) (λ r. rises-end r) (eqb-test a n)
 rises-test n a (b ∷ es) = go (leb-test (suc a) b) (rises-test n b es)
   where
-    go : {t : Bool} → Decides (a < b) t → Decides (RisesTo n b es) (rising (b ∷ es) && eqb (lastOf b es) n)
-        → Decides (RisesTo n a (b ∷ es)) ((elim t [ true ↦ rising (b ∷ es) | false ↦ false ]) && eqb (lastOf b es) n)
-    go (holds h) d = decides-map (λ r. later h r) rises-tail d
+    go : {t : Bool} → Decides (a < b) t → Decides (Rises n b es) (rising (b ∷ es) && eqb (lastOf b es) n)
+        → Decides (Rises n a (b ∷ es)) ((elim t [ true ↦ rising (b ∷ es) | false ↦ false ]) && eqb (lastOf b es) n)
+    go (holds h) d = decides-map (λ r. more h r) rises-tail d
     go (fails h) d = fails (λ r. h (rises-head r))
 
 -- a list of ends for n letters
 pub record EndsOf (n : ℕ) (es : List ℕ) : Type 0 where
   pub some : 0 < length es
-  pub rises : RisesTo n 0 es
+  pub rises : Rises n 0 es
 
 pub ends-test : (es : List ℕ) (n : ℕ) → Decides (EndsOf n es) (not (faultyEnds es n))
 unfolding faultyEnds
 ends-test [] n = fails (λ v. omega (arith, v .some))
 ends-test (e ∷ es) n = go (rising (e ∷ es)) (eqb (lastOf e es) n) (eqb-test e 0) (rises-test n e es)
   where
-    go : {s : Bool} (r l : Bool) → Decides (e ≡ 0) s → Decides (RisesTo n e es) (r && l) → Decides (EndsOf n (e ∷ es)) (not (s || (not r || not l)))
+    go : {s : Bool} (r l : Bool) → Decides (e ≡ 0) s → Decides (Rises n e es) (r && l) → Decides (EndsOf n (e ∷ es)) (not (s || (not r || not l)))
     go r l (holds z) d = fails (λ v. omega (arith, rises-head (v .rises)))
-    go true true (fails z) (holds m) = holds (record { some = omega arith; rises = let h : 0 < e = omega arith in later h m })
+    go true true (fails z) (holds m) = holds (record { some = omega arith; rises = let h : 0 < e = omega arith in more h m })
     go true false (fails z) (fails m) = fails (λ v. m (rises-tail (v .rises)))
     go false l (fails z) (fails m) = fails (λ v. m (rises-tail (v .rises)))
 
@@ -67,8 +58,8 @@ ends-pass es n v = faulty-is false (faultyEnds es n) (holds v) (ends-test es n)
 
 pub record Rising (n : ℕ) (es : List ℕ) (last i : ℕ) : Type 0 where
   pub inside : i ≤ length es
-  pub on : RisesTo n 0 es → RisesTo n last (drop i es)
-  pub back : RisesTo n last (drop i es) → RisesTo n 0 es
+  pub on : Rises n 0 es → Rises n last (drop i es)
+  pub back : Rises n last (drop i es) → Rises n 0 es
 
 pub rising-starts : (n : ℕ) (es : List ℕ) → Rising n es 0 0
 rising-starts n es = record { inside = omega arith; on = λ r. r; back = λ r. r }
@@ -78,7 +69,7 @@ module _ (n : ℕ) (es : List ℕ) (last i : ℕ) (g : Rising n es last i) where
   rising-on l h = record {
     inside = omega arith;
     on = λ r. rw (add-one i) (rises-tail (rw (drop-cons es i 0 l) at (g .on r)));
-    back = λ r. g .back (rw (drop-cons es i 0 l) (later h (rw (add-one i) at r)));
+    back = λ r. g .back (rw (drop-cons es i 0 l) (more h (rw (add-one i) at r)));
   }
 
   pub rising-fails : i < length es → getD es i 0 ≤ last → true ≡ faultyEnds es n
@@ -91,7 +82,7 @@ module _ (n : ℕ) (es : List ℕ) (last i : ℕ) (g : Rising n es last i) where
       go : {t : Bool} → Decides (last ≡ n) t → not t ≡ faultyEnds es n
       go (holds e) =
           faulty-is (faultyEnds es n) false (ends-test es n)
-          (holds (record { some = p; rises = g .back (rw (drop-of-length-le es {i = i} l) (there e)) }))
+          (holds (record { some = p; rises = g .back (rw (drop-of-length-le es {i = i} l) (done e)) }))
       go (fails m) =
           faulty-is (faultyEnds es n) true (ends-test es n)
           (fails (λ v. m (rises-end (rw (drop-of-length-le es {i = i} l) at (g .on (v .rises))))))
