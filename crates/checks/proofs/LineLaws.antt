@@ -1,6 +1,6 @@
 -- The lines of the table, whatever they are: what is known in the two branches of `let Checked::Passed = k else` (passed, refused), lines that are
 -- tried in two parts (both, refused-first, passed-first), what it tells that all pass (unmet, all-pass), which numbers can come (first-listed, zero-passes, unless-but),
--- and calls that fill a result buffer (filled-refused, filled-done).
+-- and calls that fill a result buffer (filled-refused, filled-done, and back: filled-counted, filled-number).
 use mathlib.Core.Path.{_≡_, refl, ap, sym, _∙_}
 use mathlib.Core.Bool.{Bool, true, false, not, _||_, _&&_, true≢false}
 use mathlib.Core.Logic.{_⊎_, inl, inr}
@@ -171,3 +171,22 @@ filled-refused {lines = lines} n vs buffer e h z = record {
 pub filled-done : {lines : List Line} {n m : ℕ} {vs buffer buffer′ : List ℕ} → tried lines ≡ Passed → m ≡ n → buffer′ ≡ written vs buffer
     → Filled lines n vs buffer (Counted.Count m) buffer′
 filled-done p z e = record { answer = rw p (ap (λ (t : ℕ). Counted.Count t) z); result = rw p e }
+
+-- what the cases of the answer tell
+pub filled-counted : {lines : List Line} {n m : ℕ} {vs buffer buffer′ : List ℕ} → Filled lines n vs buffer (Counted.Count m) buffer′
+    → (tried lines ≡ Passed) × (m ≡ n) × (buffer′ ≡ written vs buffer)
+filled-counted {lines} {n} {m} {vs} {buffer} {buffer′} f = go (tried lines) (f .answer) (f .result)
+  where
+    go : (k : Checked) → Counted.Count m ≡ decided k (Counted.Count n) Counted.Refused → buffer′ ≡ decided k (written vs buffer) (λ number. buffer)
+        → (k ≡ Passed) × (m ≡ n) × (buffer′ ≡ written vs buffer)
+    go Passed e b = (refl, cc, b)
+    go (Refused number) e b = let z : _≡_ {A = ℕ} 0 1 = cc in absurd (omega arith)
+
+pub filled-number : {lines : List Line} {n m : ℕ} {vs buffer buffer′ : List ℕ} → Filled lines n vs buffer (Counted.Refused m) buffer′
+    → (tried lines ≡ Refused m) × (buffer′ ≡ buffer)
+filled-number {lines} {n} {m} {vs} {buffer} {buffer′} f = go (tried lines) (f .answer) (f .result)
+  where
+    go : (k : Checked) → Counted.Refused m ≡ decided k (Counted.Count n) Counted.Refused → buffer′ ≡ decided k (written vs buffer) (λ number. buffer)
+        → (k ≡ Refused m) × (buffer′ ≡ buffer)
+    go Passed e b = let z : _≡_ {A = ℕ} 0 1 = cc in absurd (omega arith)
+    go (Refused number) e b = (cc, b)

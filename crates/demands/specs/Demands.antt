@@ -7,10 +7,11 @@ use Prim.Native.Nat.{ℕ, _-_, _≤_, _<_}
 use lib.ListN.{length, take, drop, getD}
 use lib.Seq.{slice}
 use lib.IntN.{pos, negsuc}
-use Rattle.words.specs.Words.{_≪_, _⊑_, _<ₗ_, InverseLyndon, AntiLyndon, sign}
+use Rattle.words.specs.Words.{_≪_, _⊑_, _<ₗ_, InverseLyndon, AntiLyndon}
 use Rattle.words.specs.Factorizations.{icfl, icflEnds, cflIn, cflInEnds, lyndonTable, joinFirst, prefixLength, borderLength}
 use Rattle.words.specs.Statements.{CflInOf, Part}
-use Rattle.checks.specs.Refusals.{firstRefusal, recordRefusal, rangeRefusal, startRefusal, endsRefusal, numberRefusal}
+use Rattle.checks.specs.Lines.{Line, tried}
+use Rattle.checks.specs.Answers.{numberOf}
 use Rattle.checks.specs.declared.Counted.{Counted}
 use Rattle.extension.specs.declared.Extension.{Extension}
 use Rattle.extension.specs.Extension.{extensionLines, ExtensionFound}
@@ -18,10 +19,10 @@ use Rattle.icfl.specs.Icfl.{icflLines, IcflDone}
 use Rattle.cfl.specs.CflIn.{cflInLines, CflInDone}
 use Rattle.table.specs.Table.{tableLines, Tabled}
 use Rattle.compare.specs.declared.suffixes.Comparison.{Comparison}
-use Rattle.compare.specs.Compare.{compareRefusal, comparisonAs}
+use Rattle.compare.specs.Compare.{compareLines, Compared}
 use Rattle.reading.specs.declared.summary.Summary.{Summary}
-use Rattle.reading.specs.Factor.{FactorAt}
-use Rattle.reading.specs.Summary.{summaryRefusal, summaryAs}
+use Rattle.reading.specs.Factor.{factorLines, FactorAt}
+use Rattle.reading.specs.Summary.{summaryLines, Summarized}
 
 -- ---- each answer's case, as paper 01's number: 0 for a result
 
@@ -42,8 +43,8 @@ signRefusal (Comparison.Refused e) = e
 -- every buffer for each refusal." The buffers are in the promises themselves.
 
 -- e is the number of the first line that is met, and is 0 or one of the numbers that paper 01 gives the call
-pub record Answers (numbers lines : List ℕ) (e : ℕ) : Type 0 where
-  pub first : e ≡ firstRefusal lines
+pub record Answers (numbers : List ℕ) (lines : List Line) (e : ℕ) : Type 0 where
+  pub first : e ≡ numberOf (tried lines)
   pub listed : (e ≡ 0) ⊎ List·Memᴰ e numbers
 
 pub record Demand1 : Type 0 where
@@ -53,32 +54,29 @@ pub record Demand1 : Type 0 where
       → Answers (1 ∷ 2 ∷ 3 ∷ 4 ∷ []) (icflLines w (length work) (length ends)) (countRefusal r)
   pub strictCut : (w ends ends′ : List ℕ) (r : Counted) → CflInDone w ends r ends′ → Answers (1 ∷ 2 ∷ 4 ∷ []) (cflInLines w (length ends)) (countRefusal r)
   pub startTable : (w out out′ : List ℕ) (r : Counted) → Tabled w out r out′ → Answers (1 ∷ 2 ∷ 4 ∷ []) (tableLines w (length out)) (countRefusal r)
-  pub comparison : (w : List ℕ) (first end start other : ℕ) (r : Comparison)
-      → r ≡ comparisonAs (compareRefusal w first end start other) (sign w first end start other)
-      → Answers (1 ∷ 2 ∷ 5 ∷ 6 ∷ []) (recordRefusal w ∷ rangeRefusal (length w) first end ∷ startRefusal first end start ∷ startRefusal first end other ∷ []) (signRefusal r)
-  pub reader : (w es : List ℕ) (k : ℕ) (part : List ℕ) (number : ℕ) → FactorAt w es k part number
-      → Answers (1 ∷ 2 ∷ 7 ∷ 8 ∷ []) (recordRefusal w ∷ endsRefusal es (length w) ∷ numberRefusal k (length es) ∷ []) number
-  pub summary : (w es : List ℕ) (r : Summary) → r ≡ summaryAs (summaryRefusal w es) es
-      → Answers (1 ∷ 2 ∷ 7 ∷ []) (recordRefusal w ∷ endsRefusal es (length w) ∷ []) (r .refusal)
+  pub comparison : (w : List ℕ) (first end start other : ℕ) (r : Comparison) → Compared w first end start other r
+      → Answers (1 ∷ 2 ∷ 5 ∷ 6 ∷ []) (compareLines w first end start other) (signRefusal r)
+  pub reader : (w es : List ℕ) (k : ℕ) (part : List ℕ) (number : ℕ) → FactorAt w es k part number → Answers (1 ∷ 2 ∷ 7 ∷ 8 ∷ []) (factorLines w es k) number
+  pub summary : (w es : List ℕ) (r : Summary) → Summarized w es r → Answers (1 ∷ 2 ∷ 7 ∷ []) (summaryLines w es) (r .refusal)
 
 -- ---- demand 2, for a record w
 
 -- the answer is the number of entries, and they stand at the buffer's front
-pub record Wrote (vs : List ℕ) (r : Counted) (buffer′ : List ℕ) : Type 0 where
+pub record Gave (vs : List ℕ) (r : Counted) (buffer′ : List ℕ) : Type 0 where
   pub count : r ≡ Counted.Count (length vs)
   pub entries : take (length vs) buffer′ ≡ vs
 
 pub record Demand2 (w : List ℕ) : Type 0 where
   -- "The pieces of a record of 1 to 4,096 bytes are those of the published recursive definition"
-  pub pieces : (work ends work′ ends′ : List ℕ) (r : Counted) → IcflDone w work ends r work′ ends′ → countRefusal r ≡ 0 → Wrote (icflEnds w) r ends′
+  pub pieces : (work ends work′ ends′ : List ℕ) (r : Counted) → IcflDone w work ends r work′ ends′ → countRefusal r ≡ 0 → Gave (icflEnds w) r ends′
   pub whole : InverseLyndon w → icfl w ≡ w ∷ []
   pub step : ¬ InverseLyndon w → icfl w ≡ joinFirst (take (prefixLength w) w) (borderLength w) (icfl (drop (prefixLength w) w))
   -- "the strict pieces are its Lyndon factors in the inverse byte order"
-  pub strictPieces : (ends ends′ : List ℕ) (r : Counted) → CflInDone w ends r ends′ → countRefusal r ≡ 0 → Wrote (cflInEnds w) r ends′
+  pub strictPieces : (ends ends′ : List ℕ) (r : Counted) → CflInDone w ends r ends′ → countRefusal r ≡ 0 → Gave (cflInEnds w) r ends′
   pub factors : CflInOf w (cflIn w)
   pub only : (ls : List (List ℕ)) → CflInOf w ls → ls ≡ cflIn w
   -- "and the start table holds the length of the longest strict word at each place."
-  pub table : (out out′ : List ℕ) (r : Counted) → Tabled w out r out′ → countRefusal r ≡ 0 → Wrote (lyndonTable w) r out′
+  pub table : (out out′ : List ℕ) (r : Counted) → Tabled w out r out′ → countRefusal r ≡ 0 → Gave (lyndonTable w) r out′
   pub longest : (i : ℕ) → i < length w → AntiLyndon (take (getD (lyndonTable w) i 0) (drop i w))
   pub noLonger : (i n : ℕ) → i < length w → getD (lyndonTable w) i 0 < n → n ≤ length w - i → ¬ AntiLyndon (take n (drop i w))
 
@@ -106,4 +104,4 @@ pub record Runs (w es ss : List ℕ) (compare : ℕ → ℕ → ℕ → ℕ → 
   pub short : length w ≤ 4096
   pub pieceCut : (work ends work′ ends′ : List ℕ) × (n : ℕ) × IcflDone w work ends (Counted.Count n) work′ ends′ × (es ≡ take n ends′)
   pub strictCut : (ends ends′ : List ℕ) × (n : ℕ) × CflInDone w ends (Counted.Count n) ends′ × (ss ≡ take n ends′)
-  pub comparison : (first end start other : ℕ) → compare first end start other ≡ comparisonAs (compareRefusal w first end start other) (sign w first end start other)
+  pub comparison : (first end start other : ℕ) → Compared w first end start other (compare first end start other)

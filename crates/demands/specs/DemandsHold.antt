@@ -2,12 +2,13 @@
 use mathlib.Core.Path.{_≡_, refl, ap, sym, _∙_}
 use mathlib.Core.Bool.{Bool, true, false}
 use mathlib.Core.Logic.{_⊎_, inl, inr}
-use mathlib.Core.List.{List, _∷_, List·Memᴰ, List·Memᴰ·head, List·Memᴰ·tail}
-use Prim.Native.Nat.{ℕ, zero, suc, _≤_, _<_}
+use mathlib.Core.List.{List, _∷_, List·Memᴰ}
+use Prim.Native.Nat.{ℕ, _≤_, _<_}
 use native.Mathlib.Omega.{arith}
-use lib.ListN.{length, drop, length-drop}
+use lib.ListN.{length, take, drop, length-drop}
 use lib.Seq.{take-at}
 use lib.IntN.{ℤ, pos, negsuc}
+use lib.Dec.{ltb}
 use Rattle.words.specs.Words.{isInverseLyndon, sign}
 use Rattle.words.specs.Factorizations.{failingLength, prefixLength, borderLength, icfl, icflEnds, cflInEnds}
 use Rattle.words.specs.lyndon.AntiLyndonLaws.{longest-is, longest-positive}
@@ -18,77 +19,67 @@ use Rattle.words.specs.table.LyndonTableCflIn.{lyndon-table-length, lyndon-tabl
 use Rattle.words.specs.places.Ends.{ends-boundary}
 use Rattle.words.specs.orders.SignLaws.{SignOf, before, equal, after, sign-is}
 use Rattle.words.specs.places.Demand3 as theory
-use Rattle.checks.specs.Refusals.{firstRefusal}
-use Rattle.checks.specs.Answers.{countedAs, Filled}
+use Rattle.checks.specs.Lines.{Line, tried, decided}
+use Rattle.checks.specs.Answers.{numberOf, Filled}
+use Rattle.checks.specs.declared.Checked.{Checked}
+use Rattle.checks.specs.declared.Checked.the-variants.{Passed, Refused}
 use Rattle.checks.specs.declared.Counted.{Counted}
-use Rattle.extension.specs.Extension.{verdictAs, extensionOf, extensionAs}
+use Rattle.checks.proofs.LineLaws.{reading, everyNumber, among, first-listed, zero-passes, filled-counted}
+use Rattle.extension.specs.declared.Extension.{Extension}
+use Rattle.extension.specs.Extension.{verdictAs, extensionOf, extensionLines}
 use Rattle.compare.specs.declared.suffixes.Comparison.{Comparison}
-use Rattle.compare.specs.Compare.{compareRefusal, comparisonAs}
-use Rattle.reading.specs.Factor.{factorRefusal}
-use Rattle.reading.specs.Summary.{summaryRefusal, summaryAs}
-use Rattle.demands.specs.Demands.{countRefusal, testRefusal, signRefusal, Answers, Demand1, Wrote, Demand2, Demand3, Runs}
-use Rattle.compare.proofs.ComparisonLaws.{Within, all-pass}
-use Rattle.demands.specs.Lines.{AllListed, none, more, first-listed}
-use Rattle.demands.specs.Lines.{record-listed, work-listed, result-listed, range-listed, start-listed, ends-listed, number-listed}
+use Rattle.compare.specs.Compare.{compareLines}
+use Rattle.compare.proofs.ComparisonLaws.{Within, within-passes}
+use Rattle.reading.specs.Summary.{summaryLines, summaryOf, emptySummary}
+use Rattle.demands.specs.Demands.{countRefusal, testRefusal, signRefusal, Answers, Demand1, Gave, Demand2, Demand3, Runs}
 
 -- ---- demand 1
 
-count-number : (e n : ℕ) → countRefusal (countedAs e n) ≡ e
-count-number zero n = refl
-count-number (suc e) n = refl
+-- which numbers a call can give is read off its lines
+answers : {e : ℕ} (numbers : List ℕ) (lines : List Line) → e ≡ numberOf (tried lines) → everyNumber (among numbers) lines ≡ true → Answers numbers lines e
+answers {e} numbers lines z h = record { first = z; listed = go (first-listed lines numbers h) }
+  where
+    go : (tried lines ≡ Passed) ⊎ List·Memᴰ (numberOf (tried lines)) numbers → (e ≡ 0) ⊎ List·Memᴰ e numbers
+    go (inl p) = inl (z ∙ ap numberOf p)
+    go (inr m) = inr (rw z m)
 
-test-number : (e : ℕ) (w : List ℕ) → testRefusal (extensionAs e (extensionOf w)) ≡ e
+filled-refusal : {lines : List Line} {n : ℕ} {vs buffer buffer′ : List ℕ} {r : Counted} → Filled lines n vs buffer r buffer′ → countRefusal r ≡ numberOf (tried lines)
+filled-refusal {lines} {n} f = ap countRefusal (f .answer) ∙ reading countRefusal (Counted.Count n) (λ (i : ℕ). Counted.Refused i) (tried lines)
+
+verdict-refusal : (w : List ℕ) (k : Checked) → testRefusal (decided k (extensionOf w) Extension.Refused) ≡ numberOf k
 unfolding extensionOf
-test-number zero w = go (isInverseLyndon w)
+verdict-refusal w (Refused number) = refl
+verdict-refusal w Passed = go (isInverseLyndon w)
   where
     go : (t : Bool) → testRefusal (verdictAs t (failingLength w) (prefixLength w) (borderLength w)) ≡ 0
     go true = refl
     go false = refl
-test-number (suc e) w = refl
 
-sign-number : (e : ℕ) (s : ℤ) → signRefusal (comparisonAs e s) ≡ e
-sign-number zero s = refl
-sign-number (suc e) s = refl
-
-summary-number : (e : ℕ) (es : List ℕ) → summaryAs e es .refusal ≡ e
-unfolding summaryAs
-summary-number zero es = refl
-summary-number (suc e) es = refl
-
-answers : {numbers lines : List ℕ} {e : ℕ} → e ≡ firstRefusal lines → AllListed numbers lines → Answers numbers lines e
-answers {numbers} {lines} z a = record { first = z; listed = rw z (first-listed a) }
-
-filled-number : {lines vs buffer buffer′ : List ℕ} {n : ℕ} {r : Counted} → Filled lines n vs buffer r buffer′ → countRefusal r ≡ firstRefusal lines
-filled-number {lines} {n = n} f = ap countRefusal (f .answer) ∙ count-number (firstRefusal lines) n
-
--- the third and the fourth number of a list
-third : {a b c : ℕ} {es : List ℕ} → List·Memᴰ c (a ∷ b ∷ c ∷ es)
-third = List·Memᴰ·tail (List·Memᴰ·tail (List·Memᴰ·head refl))
-
-fourth : {a b c d : ℕ} {es : List ℕ} → List·Memᴰ d (a ∷ b ∷ c ∷ d ∷ es)
-fourth = List·Memᴰ·tail (List·Memᴰ·tail (List·Memᴰ·tail (List·Memᴰ·head refl)))
+summary-refusal : (es : List ℕ) (k : Checked) → decided k (summaryOf es) emptySummary .refusal ≡ numberOf k
+unfolding summaryOf
+summary-refusal es (Refused number) = refl
+summary-refusal es Passed = refl
 
 pub demand-1 : Demand1
-unfolding compareRefusal factorRefusal summaryRefusal
 demand-1 = record {
-  test = λ w work work′ r f.
-      answers (ap testRefusal (f .answer) ∙ test-number _ w) (more (record-listed w) (more (work-listed _ _ third) none));
-  pieceCut = λ w work ends work′ ends′ r f.
-      answers (filled-number (f .filled)) (more (record-listed w) (more (work-listed _ _ third) (more (result-listed _ _ fourth) none)));
-  strictCut = λ w ends ends′ r f. answers (filled-number f) (more (record-listed w) (more (result-listed _ _ third) none));
-  startTable = λ w out out′ r f. answers (filled-number f) (more (record-listed w) (more (result-listed _ _ third) none));
-  comparison = λ w first end start other r e.
-      answers (ap signRefusal e ∙ sign-number (compareRefusal w first end start other) (sign w first end start other))
-      (more (record-listed w) (more (range-listed (length w) first end third) (more (start-listed first end start fourth) (more (start-listed first end other fourth) none))));
-  reader = λ w es k part number f. answers (f .number-is) (more (record-listed w) (more (ends-listed es _ third) (more (number-listed k _ fourth) none)));
-  summary = λ w es r e. answers (ap (λ s. s .refusal) e ∙ summary-number _ es) (more (record-listed w) (more (ends-listed es _ third) none));
+  test = λ w work work′ r f. answers _ _ (ap testRefusal (f .answer) ∙ verdict-refusal w (tried (extensionLines w (length work)))) refl;
+  pieceCut = λ w work ends work′ ends′ r f. answers _ _ (filled-refusal (f .filled)) refl;
+  strictCut = λ w ends ends′ r f. answers _ _ (filled-refusal f) refl;
+  startTable = λ w out out′ r f. answers _ _ (filled-refusal f) refl;
+  comparison = λ w first end start other r f. answers _ _
+      (ap signRefusal (f .answer)
+      ∙ reading signRefusal (Comparison.Sign (sign w first end start other)) (λ (i : ℕ). Comparison.Refused i) (tried (compareLines w first end start other)))
+      refl;
+  reader = λ w es k part number f. answers _ _ (f .number-is) refl;
+  summary = λ w es r f. answers _ _ (ap (λ s. s .refusal) (f .answer) ∙ summary-refusal es (tried (summaryLines w es))) refl;
 }
 
 -- ---- demand 2
 
-wrote : {lines vs buffer buffer′ : List ℕ} {n : ℕ} {r : Counted} → n ≡ length vs → Filled lines n vs buffer r buffer′ → countRefusal r ≡ 0 → Wrote vs r buffer′
-wrote {lines} {vs} {buffer} {buffer′} {n} {r} z f e =
-    let none : firstRefusal lines ≡ 0 = sym (filled-number f) ∙ e in
+gave : {lines : List Line} {n : ℕ} {vs buffer buffer′ : List ℕ} {r : Counted} → everyNumber (ltb 0) lines ≡ true → n ≡ length vs
+    → Filled lines n vs buffer r buffer′ → countRefusal r ≡ 0 → Gave vs r buffer′
+gave {lines} {n} {vs} {buffer} p z f e =
+    let none : tried lines ≡ Passed = zero-passes lines p (sym (filled-refusal f) ∙ e) in
     record {
       count = (rw none at (f .answer)) ∙ ap (λ (t : ℕ). Counted.Count t) z;
       entries = rw (rw none at (f .result)) (take-at vs (drop (length vs) buffer) (length vs) refl);
@@ -96,40 +87,35 @@ wrote {lines} {vs} {buffer} {buffer′} {n} {r} z f e =
 
 pub demand-2 : (w : List ℕ) → 1 ≤ length w → length w ≤ 4096 → Demand2 w
 demand-2 w p q = record {
-  pieces = λ work ends work′ ends′ r f. wrote refl (f .filled);
+  pieces = λ work ends work′ ends′ r f. gave refl refl (f .filled);
   whole = icfl-whole w;
   step = icfl-step w p;
-  strictPieces = λ ends ends′ r f. wrote refl f;
+  strictPieces = λ ends ends′ r f. gave refl refl f;
   factors = cfl-in-is w;
   only = cfl-in-unique w;
-  table = λ out out′ r f. wrote (sym (lyndon-table-length w)) f;
+  table = λ out out′ r f. gave refl (sym (lyndon-table-length w)) f;
   longest = λ i l. rw (lyndon-table-at w i l) (longest-is (drop i w) .word (longest-positive (drop i w) (rw length-drop (omega arith))));
   noLonger = λ i n l a b. longest-is (drop i w) .longer n (rw (lyndon-table-at w i l) at a) (rw length-drop b);
 }
 
 -- ---- demand 3
 
+front : {lines : List Line} {vs buffer buffer′ : List ℕ} {m : ℕ} → Filled lines (length vs) vs buffer (Counted.Count m) buffer′ → take m buffer′ ≡ vs
+front {vs = vs} {buffer = buffer} f = let h = filled-counted f in rw (h .2, h .1) (take-at vs (drop (length vs) buffer) (length vs) refl)
+
 module _ (w es ss : List ℕ) (compare : ℕ → ℕ → ℕ → ℕ → Comparison) (r : Runs w es ss compare) where
   pieces-are : es ≡ icflEnds w
-  pieces-are =
-      let q = r .pieceCut in
-      let x : Wrote (icflEnds w) (Counted.Count (q .4)) (q .3) = wrote refl (q .5 .filled) refl in
-      let n : q .4 ≡ length (icflEnds w) = let z = x .count in cc in
-      q .6 ∙ rw n (x .entries)
+  pieces-are = let q = r .pieceCut in q .6 ∙ front (q .5 .filled)
 
   strict-are : ss ≡ cflInEnds w
-  strict-are =
-      let q = r .strictCut in
-      let x : Wrote (cflInEnds w) (Counted.Count (q .2)) (q .1) = wrote refl (q .3) refl in
-      let n : q .2 ≡ length (cflInEnds w) = let z = x .count in cc in
-      q .4 ∙ rw n (x .entries)
+  strict-are = let q = r .strictCut in q .4 ∙ front (q .3)
 
   -- inside an accepted range the comparison answers the sign
   signs : (first end start other : ℕ) → end ≤ length w → first ≤ start → start < end → first ≤ other → other < end
       → compare first end start other ≡ Comparison.Sign (sign w first end start other)
   signs first end start other l a b c d =
       let within : Within w first end start other = record { short = r .short; inside = l; start-from = a; start-below = b; other-from = c; other-below = d } in
-      r .comparison first end start other ∙ rw (all-pass w first end start other within)
+      r .comparison first end start other .answer ∙ rw (within-passes w first end start other within)
 
   module _ (first end start other : ℕ) (h : List·Memᴰ end es) (a : first ≤ start) (b : start < end) (c : first ≤ other) (d : other < end) (n : ¬ (start ≡ other)) where
     inside : end ≤ length w
