@@ -6,11 +6,15 @@ use native.Mathlib.Nat.{zero-add}
 use native.Mathlib.Decide.{ℕ-discrete}
 use native.Mathlib.Omega.{arith}
 use lib.ListN.{length}
-use Rattle.checks.proofs.EndsLaws.{Rises, done, more, rises-most}
-use Rattle.reading.specs.Summary.{summaryRefusal, lengthsFrom, bitLength, countOf, bandsOf, summaryAs}
+use Rattle.words.specs.places.EndsRise.{RisesTo, there, later, rises-few}
+use Rattle.checks.specs.declared.Checked.{Checked}
+use Rattle.checks.specs.declared.Checked.the-variants.{Passed, Refused}
+use Rattle.checks.specs.Lines.{tried, decided}
+use Rattle.reading.specs.declared.summary.Summary.{Summary}
+use Rattle.reading.specs.Summary.{summaryLines, lengthsFrom, bitLength, countOf, bandsOf, emptySummary, summaryOf, Summarized}
+use Rattle.reading.proofs.FactorLaws.{Listed, listed}
 use Rattle.reading.proofs.BitLengths.{bit-length-most, bit-length-some}
 use Rattle.reading.proofs.SummaryLaws.{bandsFrom, countsFrom, count-here, count-other, bands-are-counts}
-use Rattle.reading.proofs.SummaryAnswers.{summary-accepted}
 
 counts-none : (b k : ℕ) → sum _+_ 0 (countsFrom b k []) ≡ 0
 unfolding sum countOf
@@ -36,22 +40,22 @@ counts-among (suc b) k n ns l h = go (ℕ-discrete n k) (λ m. counts-among b (s
     go (yes e) ih = omega (arith, count-here k n ns e, counts-below b (suc k) n ns (omega arith))
     go (no e) ih = omega (arith, count-other k n ns e, ih (omega arith))
 
-bands-sum-from : {n a : ℕ} {es : List ℕ} → Rises n a es → n ≤ 4096 → sum _+_ 0 (countsFrom 13 1 (bandsFrom a es)) ≡ length es
+bands-sum-from : {n a : ℕ} {es : List ℕ} → RisesTo n a es → n ≤ 4096 → sum _+_ 0 (countsFrom 13 1 (bandsFrom a es)) ≡ length es
 unfolding lengthsFrom
-bands-sum-from (done e) l = counts-none 13 1
-bands-sum-from (more {a = a} {e = e} {es = es} h r) l =
-    let m = rises-most r in
+bands-sum-from (there e) l = counts-none 13 1
+bands-sum-from (later {b = a} {e = e} {es = es} h r) l =
+    let m = rises-few r in
     counts-among 13 1 (bitLength (e - a)) (bandsFrom e es) (bit-length-some (e - a) (omega arith)) (omega (arith, bit-length-most (e - a) (omega arith)))
     ∙ ap suc (bands-sum-from r l)
 
-pub bands-sum : (n : ℕ) (es : List ℕ) → Rises n 0 es → n ≤ 4096 → sum _+_ 0 (bandsOf es) ≡ length es
+pub bands-sum : (n : ℕ) (es : List ℕ) → RisesTo n 0 es → n ≤ 4096 → sum _+_ 0 (bandsOf es) ≡ length es
 bands-sum n es r l = rw (bands-are-counts es) (bands-sum-from r l)
 
 -- beside a refusal all are 0
-pub summary-bands-sum : (w es : List ℕ) → sum _+_ 0 (summaryAs (summaryRefusal w es) es .bands) ≡ summaryAs (summaryRefusal w es) es .count
-unfolding sum summaryAs
-summary-bands-sum w es = go (summaryRefusal w es) (summary-accepted w es)
+pub summary-bands-sum : {w es : List ℕ} {r : Summary} → Summarized w es r → sum _+_ 0 (r .bands) ≡ r .count
+unfolding sum summaryOf
+summary-bands-sum {w} {es} s = rw (s .answer) (go (tried (summaryLines w es)) (listed w es))
   where
-    go : (k : ℕ) → (k ≡ 0 → Rises (length w) 0 es × (length w ≤ 4096)) → sum _+_ 0 (summaryAs k es .bands) ≡ summaryAs k es .count
-    go zero g = let m = g refl in bands-sum (length w) es (m .0) (m .1)
-    go (suc k) g = refl
+    go : (k : Checked) → (k ≡ Passed → Listed w es) → sum _+_ 0 (decided k (summaryOf es) emptySummary .bands) ≡ decided k (summaryOf es) emptySummary .count
+    go Passed g = bands-sum (length w) es (g refl .rises) (g refl .letters)
+    go (Refused e) g = refl

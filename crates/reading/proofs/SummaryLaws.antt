@@ -1,4 +1,4 @@
--- The summary's definitions clause by clause: startOf and countOf by cases, the thirteen bands by their numbers, and equal summaries.
+-- The summary's definitions clause by clause: startOf and countOf by cases, the thirteen bands by their numbers.
 use mathlib.Core.Path.{_≡_, refl, ap, _∙_}
 use mathlib.Core.Bool.{Bool, true, false}
 use mathlib.Core.List.{List, [], _∷_, map}
@@ -9,7 +9,6 @@ use lib.ListN.{length, getD}
 use borrow.Author.Tests.{eq-eqb, ne-eqb}
 use Rattle.words.specs.orders.Decisions.{Decides, holds, fails, eqb-test}
 use Rattle.reading.specs.Summary.{lengthsFrom, startOf, bitLength, countOf, bandsOf}
-use Rattle.reading.specs.declared.summary.Summary.{Summary}
 
 pub start-here : (n a e : ℕ) (es : List ℕ) → e - a ≡ n → startOf n a (e ∷ es) ≡ a
 unfolding startOf
@@ -66,7 +65,3 @@ pub bands-at : (es : List ℕ) (k : ℕ) → k < 13 → getD (bandsOf es) k 0 �
 bands-at es k h =
     let z : 1 + k ≡ suc k = omega arith in
     rw (bands-are-counts es) (counts-at 13 1 k (bandsFrom 0 es) h ∙ rw z)
-
-pub same-summary : (s t : Summary) → s .refusal ≡ t .refusal → s .count ≡ t .count → s .longest ≡ t .longest → s .from ≡ t .from
-    → s .bands ≡ t .bands → s ≡ t
-same-summary s t e c l f b = λ i. record { refusal = e i; count = c i; longest = l i; from = f i; bands = b i }

@@ -1,15 +1,16 @@
 -- DEFINITIONS. The summary: "the number of pieces; the longest piece's length and first place, the earliest among equals; and the band counts".
+use mathlib.Core.Path.{_≡_}
 use mathlib.Core.Bool.{true, false}
-use mathlib.Core.List.{List, [], _∷_, map}
-use Prim.Native.Nat.{ℕ, zero, suc, _-_, _/_, max}
-use lib.ListN.{length, replicate}
+use mathlib.Core.List.{List, [], _∷_, _++_, map}
+use Prim.Native.Nat.{ℕ, zero, suc, _-_, _/_, _≤_, _<_, max}
+use lib.ListN.{length, getD, replicate}
 use lib.Dec.{eqb}
-use Rattle.checks.specs.Refusals.{firstRefusal, recordRefusal, endsRefusal}
+use Rattle.checks.specs.Lines.{Line, _unless_then_, recordLines, endsLine}
 use Rattle.reading.specs.declared.summary.Summary.{Summary}
 
 -- 1, 2 and 7
-unfoldable pub summaryRefusal : List ℕ → List ℕ → ℕ
-summaryRefusal w es = firstRefusal (recordRefusal w ∷ endsRefusal es (length w) ∷ [])
+abbrev pub summaryLines : List ℕ → List ℕ → List Line
+summaryLines w es = recordLines w ++ endsLine es (length w) ∷ []
 
 -- the lengths of the parts that end at es, the first of which begins at a
 unfoldable pub lengthsFrom : ℕ → List ℕ → List ℕ
@@ -48,14 +49,25 @@ bandsOf es =
     let bands = map bitLength (lengthsFrom 0 es) in
     map (λ k. countOf k bands) (1 ∷ 2 ∷ 3 ∷ 4 ∷ 5 ∷ 6 ∷ 7 ∷ 8 ∷ 9 ∷ 10 ∷ 11 ∷ 12 ∷ 13 ∷ [])
 
+-- the result
+unfoldable pub summaryOf : List ℕ → Summary
+unfolding lengthsFrom greatest startOf bandsOf
+summaryOf es =
+    let longest = greatest (lengthsFrom 0 es) in
+    record { refusal = 0; count = length es; longest = longest; from = startOf longest 0 es; bands = bandsOf es }
+
 -- a refusal's number alone: "Where other numbers must stand beside it, as the summary's, they are 0."
 abbrev pub emptySummary : ℕ → Summary
 emptySummary e = record { refusal = e; count = 0; longest = 0; from = 0; bands = replicate 13 0 }
 
--- the answer for a refusal's number, 0 for none
-unfoldable pub summaryAs : ℕ → List ℕ → Summary
-unfolding lengthsFrom greatest startOf bandsOf
-summaryAs zero es =
-    let longest = greatest (lengthsFrom 0 es) in
-    record { refusal = 0; count = length es; longest = longest; from = startOf longest 0 es; bands = bandsOf es }
-summaryAs (suc e) es = emptySummary (suc e)
+-- the summary's promise
+pub record Summarized (w es : List ℕ) (r : Summary) : Type 0 where
+  pub answer : r ≡ summaryOf es unless summaryLines w es then emptySummary
+
+-- ---- inside
+
+-- what the loop asks of the ends: each part begins before it ends, and no end and no number of parts is above the most letters
+pub record Summable (es : List ℕ) : Type 0 where
+  pub rising : (k : ℕ) → k < length es → getD (0 ∷ es) k 0 < getD es k 0
+  pub short : (k : ℕ) → getD es k 0 ≤ 4096
+  pub few : length es ≤ 4096

@@ -3,8 +3,8 @@
 mod factor;
 mod summary;
 
+pub use factor::admit_factor;
 pub use factor::factor_at;
 pub use factor::factor_from;
-pub use factor::factor_refusal;
 pub use summary::Summary;
 pub use summary::summarize;

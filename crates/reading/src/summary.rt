@@ -1,10 +1,8 @@
 //! The summary of the parts that a list of ends marks in a record.
 use checks::Checked;
 ghost use mathlib.Core.Path.{_≡_};
-ghost use Prim.Native.Nat.{ℕ, _+_, _≤_, _<_};
-ghost use lib.ListN.{length, getD, set};
-ghost use Rattle.checks.specs.Refusals.{endsRefusal};
-ghost use Rattle.reading.specs.Summary.{bitLength, emptySummary, summaryRefusal, summaryAs};
+ghost use Rattle.checks.specs.Lines.{tried};
+ghost use Rattle.reading.specs.Summary.{summaryLines, bitLength, emptySummary, summaryOf, Summarized, Summable};
 
 /// What the parts come to. Beside a refusal all fields but its number are 0.
 #[repr(C)]
@@ -21,26 +19,19 @@ pub struct Summary {
     pub bands: [u16; 13],
 }
 
+/// The record and the list of ends: what every call on a list tries first.
+pub fn admit_ends(word: &[u8], ends: &[u16]) -> Checked
+    ensures { λ r. ⌜ r ≡ tried (summaryLines (now (word .entry)) (now (ends .entry))) ⌝ }
+{
+    checks::check_record(word).then(checks::check_ends(ends, word.len()))
+}
+
 // The number of binary digits of n.
-fn bit_length(n: u16) -> u16
+fn bit_length(n: u16) -> usize
     ensures { λ r. ⌜ r ≡ bitLength n ⌝ }
 {
     let zeros = u16::leading_zeros(n);
-    (16 - zeros) as u16
-}
-
-// Counts one more part in a band; a band past the thirteen counts nowhere. Every count is gone through and gets 1 or 0, so that all stay in registers: a count
-// that is found by its index is written to memory and read back.
-fn count_in(bands: &mut [u16; 13], band: u16)
-    requires { ⌜ (length (now bands) ≡ 13) × ((k : ℕ) → k < 13 → getD (now bands) k 0 < 65535) ⌝ }
-    ensures { λ r. ⌜ now (bands .exit) ≡ set (now (bands .entry)) band (getD (now (bands .entry)) band 0 + 1) ⌝ }
-{
-    let mut k: usize = 0;
-    while k < 13 {
-        let one: u16 = if k as u16 == band { 1 } else { 0 };
-        bands[k] = bands[k] + one;
-        k += 1;
-    }
+    (16 - zeros) as usize
 }
 
 impl Summary {
@@ -58,35 +49,25 @@ impl Summary {
     }
 }
 
-// The summary of the parts that a list of ends marks in a record of `length` letters, or refusal 7, in one pass over the list. Only a longer part takes the
-// place of the longest.
-fn sum_up(ends: &[u16], length: usize) -> Summary
-    requires { ⌜ length ≤ 4096 ⌝ }
-    ensures { λ r. ⌜ r ≡ summaryAs (endsRefusal (now (ends .entry)) length) (now (ends .entry)) ⌝ }
+// The summary of the parts that a list of ends marks. Only a longer part takes the place of the longest.
+fn sum_up(ends: &[u16]) -> Summary
+    requires { ⌜ Summable (now ends) ⌝ }
+    ensures { λ r. ⌜ r ≡ summaryOf (now (ends .entry)) ⌝ }
 {
-    let n = ends.len();
-    if n == 0 {
-        return Summary::empty(7);
-    }
-    if ends[n - 1] != length as u16 {
-        return Summary::empty(7);
-    }
     let mut bands = [0u16; 13];
     let mut longest: u16 = 0;
     let mut from: u16 = 0;
     let mut last: u16 = 0;
     let mut i: usize = 0;
-    while i < n {
+    while i < ends.len() {
         let end = ends[i];
-        if end <= last {
-            return Summary::empty(7);
-        }
         let size = end - last;
         if longest < size {
             longest = size;
             from = last;
         }
-        count_in(&mut bands, bit_length(size) - 1);
+        let band = bit_length(size) - 1;
+        bands[band] += 1;
         last = end;
         i += 1;
     }
@@ -101,11 +82,11 @@ fn sum_up(ends: &[u16], length: usize) -> Summary
 
 /// The summary of a record and a list of ends, or refusal 1, 2 or 7.
 pub fn summarize(word: &[u8], ends: &[u16]) -> Summary
-    ensures { λ r. ⌜ r ≡ summaryAs (summaryRefusal (now (word .entry)) (now (ends .entry))) (now (ends .entry)) ⌝ }
+    ensures { λ r. ⌜ Summarized (now (word .entry)) (now (ends .entry)) r ⌝ }
 {
-    let recorded = checks::check_record(word);
-    let Checked::Passed = recorded else {
-        return Summary::empty(recorded.number());
+    let admitted = admit_ends(word, ends);
+    let Checked::Passed = admitted else {
+        return Summary::empty(admitted.number());
     };
-    sum_up(ends, word.len())
+    sum_up(ends)
 }

@@ -1,16 +1,42 @@
--- The number is what the checks answer. A call that they accept has its ends in order and inside the record.
+-- The number is what the admission answers. A call that is admitted has its ends in order and inside the record.
 use borrow.Author.Needs.{needs}
-use mathlib.Core.Path.{sym, _∙_}
+use mathlib.Core.Path.{_≡_, ap, _∙_}
+use mathlib.Core.List.{List, []}
+use Prim.Native.Nat.{ℕ}
 use native.Mathlib.Omega.{arith}
-use Rattle.reading.proofs.FactorLaws.{Placed, factor-accepted, empty-part, part-read}
+use lib.ListN.{getD}
+use Rattle.buffers.proofs.PartLaws.{part-is}
+use Rattle.checks.specs.declared.Checked.the-variants.{Passed}
+use Rattle.checks.specs.Lines.{tried}
+use Rattle.checks.specs.Answers.{numberOf}
+use Rattle.checks.proofs.LineLaws.{passed, refused}
+use Rattle.reading.specs.Factor.{factorLines}
+use Rattle.reading.proofs.FactorLaws.{Placed, placed}
 use Rattle.reading.proofs.factor.factor_at.Statement.{statement}
 use Rattle.reading.proofs.factor.factor_at.Tie as tie
 
-accepted : (c : tie.Else1) → (let a = c .before .before .before .before .args in Placed (a .word .now) (a .ends .now) (a .number))
-accepted c = factor-accepted _ _ _ (sym (c .before .factor-refusal .ensures) ∙ c .if1 .left)
+passed-at : (c : tie.After-enum-told) → let a = c .before .before .before .before .before .before .args in
+    tried (factorLines (a .word .now) (a .ends .now) (a .number)) ≡ Passed
+passed-at c = passed _ (c .before .before .before .admit-factor .ensures) (c .before .match .keys1)
 
-factor-refusal-requires : tie.Need-factor-refusal-requires
-factor-refusal-requires c κs = search needs
+placed-at : (c : tie.After-enum-told) → let a = c .before .before .before .before .before .before .args in Placed (a .word .now) (a .ends .now) (a .number)
+placed-at c = placed _ _ _ (passed-at c)
+
+number-at : (c : tie.After-number) → let a = c .before .before .before .before .args in
+    c .number .result ≡ numberOf (tried (factorLines (a .word .now) (a .ends .now) (a .number)))
+number-at c = c .number .ensures ∙ ap numberOf (c .before .admit-factor .ensures)
+
+admit-factor-requires : tie.Need-admit-factor-requires
+admit-factor-requires c κs = search needs
+
+number-requires : tie.Need-number-requires
+number-requires c κs = search needs
+
+enum-told : tie.Need-enum-told
+enum-told c = search needs
+
+enum-told-2 : tie.Need-enum-told-2
+enum-told-2 c = search needs
 
 sub-result : tie.Need-sub-result
 sub-result c = search needs
@@ -23,59 +49,50 @@ part-result-end c = search needs
 
 returns : tie.Need-returns
 returns c =
-    let r = c .before .before .factor-refusal .ensures in
-    record { number-is = r; part-is = rw (← r) (empty-part _ _ _ _ (c .before .if1 .taken)) }
+    let at-match = c .before .before in
+    let at-number = at-match .before in
+    record {
+      number-is = number-at at-number;
+      part-is = refused {A = List ℕ} _ _ (λ (n : ℕ). []) (at-number .before .admit-factor .ensures) (at-match .match .keys2) (at-number .number .ensures);
+    }
 
 factor-from-requires : tie.Need-factor-from-requires
-factor-from-requires c κs = accepted c .listed
+factor-from-requires c κs = placed-at c .listed
 
 cast-from : tie.Need-cast-from
 cast-from c = search needs
 
 mul-end : tie.Need-mul-end
-mul-end c = let a = accepted (c .before) in search needs
+mul-end c = let p = placed-at (c .before) in search needs
 
 shared-slice-read-end : tie.Need-shared-slice-read-end
-shared-slice-read-end c = accepted (c .before .before) .listed
+shared-slice-read-end c = placed-at (c .before .before) .listed
 
 cast-end : tie.Need-cast-end
-cast-end c = omega (arith, c .shared-slice-known3 .given (c .before .before .before .before .before .before .args .number))
+cast-end c = omega (arith, c .shared-slice-known3 .given (c .before .before .before .before .before .before .before .before .args .number))
 
 sub-result-2 : tie.Need-sub-result-2
-sub-result-2 c = omega (arith, accepted (c .before .before) .ordered, c .before .factor-from .ensures)
+sub-result-2 c = omega (arith, placed-at (c .before .before) .ordered, c .before .factor-from .ensures)
 
 part-result-start-2 : tie.Need-part-result-start-2
-part-result-start-2 c = omega (arith, accepted (c .before .before) .ordered, c .before .factor-from .ensures)
+part-result-start-2 c = omega (arith, placed-at (c .before .before) .ordered, c .before .factor-from .ensures)
 
 part-result-end-2 : tie.Need-part-result-end-2
-part-result-end-2 c = accepted (c .before .before) .inside
+part-result-end-2 c = placed-at (c .before .before) .inside
 
 returns-2 : tie.Need-returns-2
 returns-2 c =
-    let at = c .before .before in
-    let a = at .before .before .before .before .before .args in
-    let r = at .before .before .factor-refusal .ensures in
-    let e = sym r ∙ at .before .if1 .left in
+    let at-from = c .before .before in
+    let at-match = at-from .before in
+    let at-number = at-match .before .before in
+    let a = at-number .before .before .before .before .args in
     record {
-      number-is = r;
-      part-is = part-read (a .word .now) (a .ends .now) (a .number) (at .factor-from .result) e (at .factor-from .ensures);
+      number-is = number-at at-number;
+      part-is = rw (passed-at at-match, ← at-from .factor-from .ensures) (part-is _ (getD (a .ends .now) (a .number) 0) (a .word .now));
     }
 
 pub factor-at-spec : {M : Type 1} → statement M
 factor-at-spec =
     tie.close
-    (tie.spec
-    factor-refusal-requires
-    sub-result
-    part-result-start
-    part-result-end
-    returns
-    factor-from-requires
-    cast-from
-    mul-end
-    shared-slice-read-end
-    cast-end
-    sub-result-2
-    part-result-start-2
-    part-result-end-2
-    returns-2)
+    (tie.spec admit-factor-requires number-requires enum-told enum-told-2 sub-result part-result-start part-result-end returns
+    factor-from-requires cast-from mul-end shared-slice-read-end cast-end sub-result-2 part-result-start-2 part-result-end-2 returns-2)

@@ -1,18 +1,22 @@
--- A record that is refused leaves no part; else line 7 decides.
+-- A call that is not admitted leaves no part; one that is has a list that the loop takes.
 use borrow.Author.Needs.{needs}
-use mathlib.Core.Path.{_≡_, _∙_, ap}
-use Rattle.checks.specs.Refusals.{recordRefusal}
-use Rattle.checks.proofs.RefusalLaws.{record-accepted, passed}
-use Rattle.reading.specs.Summary.{emptySummary}
-use Rattle.reading.proofs.SummaryAnswers.{record-passed, record-refused}
+use mathlib.Core.Path.{_≡_, _∙_}
+use Rattle.checks.specs.declared.Checked.the-variants.{Passed}
+use Rattle.checks.specs.Lines.{tried}
+use Rattle.checks.proofs.LineLaws.{passed, refused}
+use Rattle.reading.specs.Summary.{summaryLines, emptySummary}
+use Rattle.reading.proofs.FactorLaws.{Listed, listed, summable}
 use Rattle.reading.proofs.summary.summarize.Statement.{statement}
 use Rattle.reading.proofs.summary.summarize.Tie as tie
 
-accepted : (c : tie.After-enum-told) → recordRefusal (c .before .before .before .before .before .args .word .now) ≡ 0
-accepted c = passed _ _ (c .before .before .check-record .ensures) (c .before .match .keys1)
+passed-at : (c : tie.After-enum-told) → let a = c .before .before .before .before .before .args in tried (summaryLines (a .word .now) (a .ends .now)) ≡ Passed
+passed-at c = passed _ (c .before .before .admit-ends .ensures) (c .before .match .keys1)
 
-check-record-requires : tie.Need-check-record-requires
-check-record-requires c κs = search needs
+listed-at : (c : tie.After-enum-told) → let a = c .before .before .before .before .before .args in Listed (a .word .now) (a .ends .now)
+listed-at c = listed _ _ (passed-at c)
+
+admit-ends-requires : tie.Need-admit-ends-requires
+admit-ends-requires c κs = search needs
 
 enum-told : tie.Need-enum-told
 enum-told c = search needs
@@ -28,26 +32,18 @@ empty-requires c κs = search needs
 
 returns : tie.Need-returns
 returns c =
-    let refused = c .before .before .before in
-    c .empty .ensures
-    ∙ ap emptySummary (c .before .number .ensures)
-    ∙ record-refused _ _ _ (refused .before .check-record .ensures) (refused .match .keys2)
+    let at-match = c .before .before .before in
+    record {
+      answer = c .empty .ensures ∙ refused _ _ emptySummary (at-match .before .admit-ends .ensures) (at-match .match .keys2) (c .before .number .ensures);
+    }
 
 sum-up-requires : tie.Need-sum-up-requires
-sum-up-requires c κs = record-accepted _ (accepted c) .short
+sum-up-requires c κs = summable (listed-at c)
 
 returns-2 : tie.Need-returns-2
-returns-2 c = rw (record-passed _ _ (accepted (c .before))) (c .sum-up .ensures)
+returns-2 c = record { answer = rw (passed-at (c .before)) (c .sum-up .ensures) }
 
 pub summarize-spec : {M : Type 1} → statement M
 summarize-spec =
     tie.close
-    (tie.spec
-    check-record-requires
-    enum-told
-    enum-told-2
-    number-requires
-    empty-requires
-    returns
-    sum-up-requires
-    returns-2)
+    (tie.spec admit-ends-requires enum-told enum-told-2 number-requires empty-requires returns sum-up-requires returns-2)
