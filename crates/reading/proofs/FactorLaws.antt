@@ -2,22 +2,17 @@
 -- takes (summable).
 use mathlib.Core.Path.{_≡_}
 use mathlib.Core.List.{List, _∷_}
-use Prim.Native.Nat.{ℕ, zero, suc, _≤_, _<_}
+use Prim.Native.Nat.{ℕ, _≤_, _<_}
 use native.Mathlib.Omega.{arith}
 use lib.ListN.{length, getD}
 use borrow.Author.Tests.{ltb-false, leb-false}
-use Rattle.words.specs.places.EndsRise.{RisesTo, there, later, rises-few, rises-inside}
+use Rattle.words.specs.places.EndsRise.{Rises, rises-few, rises-inside, rises-at}
 use Rattle.checks.specs.declared.Checked.the-variants.{Passed}
 use Rattle.checks.specs.Lines.{tried}
 use Rattle.checks.proofs.LineLaws.{unmet}
 use Rattle.checks.proofs.EndsLaws.{ends-accepted}
 use Rattle.reading.specs.Summary.{summaryLines, Summable}
 use Rattle.reading.specs.Factor.{factorLines, factorFrom}
-
-rises-above : {n a : ℕ} {es : List ℕ} → RisesTo n a es → (k : ℕ) → k < length es → getD (a ∷ es) k 0 < getD es k 0
-rises-above (there e) k l = absurd (omega arith)
-rises-above (later h r) zero l = h
-rises-above (later h r) (suc k) l = rises-above r k (omega arith)
 
 pub record Placed (w es : List ℕ) (k : ℕ) : Type 0 where
   pub listed : k < length es
@@ -29,12 +24,12 @@ placed w es k e =
     let u = unmet (factorLines w es k) e in
     let r = ends-accepted es (length w) (u .1 .1 .0) .rises in
     let l = leb-false (length es) k (u .1 .1 .1 .0) in
-    record { listed = l; ordered = rises-above r k l; inside = rises-inside r k }
+    record { listed = l; ordered = rises-at r k l .0; inside = rises-inside r k }
 
 -- a record that is not too long, and ends that rise to its length
 pub record Listed (w es : List ℕ) : Type 0 where
   pub letters : length w ≤ 4096
-  pub rises : RisesTo (length w) 0 es
+  pub rises : Rises (length w) 0 es
 
 pub listed : (w es : List ℕ) → tried (summaryLines w es) ≡ Passed → Listed w es
 listed w es e =
@@ -43,7 +38,7 @@ listed w es e =
 
 pub summable : {w es : List ℕ} → Listed w es → Summable es
 summable v = record {
-  rising = rises-above (v .rises);
+  rising = λ k l. rises-at (v .rises) k l .0;
   short = λ k. omega (arith, rises-inside (v .rises) k, v .letters);
   few = omega (arith, rises-few (v .rises), v .letters);
 }
