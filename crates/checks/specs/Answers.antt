@@ -16,6 +16,11 @@ numberOf k = decided k 0 (λ number. number)
 abbrev pub firstOf : Checked → Checked → Checked
 firstOf k next = decided k next Refused
 
+-- paper 01's number of an answer: 0 for a result
+abbrev pub countRefusal : Counted → ℕ
+countRefusal (Counted.Count n) = 0
+countRefusal (Counted.Refused number) = number
+
 -- a call that fills a result buffer with vs and answers n: "An accepted cut or start table writes exactly the answer's entries, from entry 0"; "Result buffers
 -- are untouched by a refusal."
 pub record Filled (lines : List Line) (n : ℕ) (vs buffer : List ℕ) (r : Counted) (buffer′ : List ℕ) : Type 0 where

@@ -8,7 +8,12 @@ use Rattle.checks.specs.Lines.{Line, _unless_then_, recordLines, rangeLine, sta
 use Rattle.compare.specs.declared.suffixes.Comparison.{Comparison}
 use Rattle.compare.specs.declared.suffixes.Comparison.the-variants.{Sign, Refused}
 
--- 1, 2, 5 and 6, the last for each of the two starts
+-- paper 01's number of an answer: 0 for a result
+abbrev pub signRefusal : Comparison → ℕ
+signRefusal (Sign s) = 0
+signRefusal (Refused number) = number
+
+-- the lines of the table that the comparison tries: 1, 2, 5 and 6, the last for each of the two starts
 abbrev pub compareLines : List ℕ → ℕ → ℕ → ℕ → ℕ → List Line
 compareLines w first end start other = recordLines w ++ rangeLine (length w) first end ∷ startLine first end start ∷ startLine first end other ∷ []
 

@@ -11,33 +11,18 @@ use Rattle.words.specs.Words.{_≪_, _⊑_, _<ₗ_, InverseLyndon, AntiLyndon}
 use Rattle.words.specs.Factorizations.{icfl, icflEnds, cflIn, cflInEnds, lyndonTable, joinFirst, prefixLength, borderLength}
 use Rattle.words.specs.Statements.{CflInOf, Part}
 use Rattle.checks.specs.Lines.{Line, tried}
-use Rattle.checks.specs.Answers.{numberOf}
+use Rattle.checks.specs.Answers.{numberOf, countRefusal}
 use Rattle.checks.specs.declared.Counted.{Counted}
 use Rattle.extension.specs.declared.Extension.{Extension}
-use Rattle.extension.specs.Extension.{extensionLines, ExtensionFound}
+use Rattle.extension.specs.Extension.{testRefusal, extensionLines, ExtensionFound}
 use Rattle.icfl.specs.Icfl.{icflLines, IcflDone}
 use Rattle.cfl.specs.CflIn.{cflInLines, CflInDone}
 use Rattle.table.specs.Table.{tableLines, Tabled}
 use Rattle.compare.specs.declared.suffixes.Comparison.{Comparison}
-use Rattle.compare.specs.Compare.{compareLines, Compared}
+use Rattle.compare.specs.Compare.{signRefusal, compareLines, Compared}
 use Rattle.reading.specs.declared.summary.Summary.{Summary}
 use Rattle.reading.specs.Factor.{factorLines, FactorAt}
 use Rattle.reading.specs.Summary.{summaryLines, Summarized}
-
--- ---- each answer's case, as paper 01's number: 0 for a result
-
-abbrev pub countRefusal : Counted → ℕ
-countRefusal (Counted.Count n) = 0
-countRefusal (Counted.Refused e) = e
-
-abbrev pub testRefusal : Extension → ℕ
-testRefusal Extension.InverseLyndon = 0
-testRefusal (Extension.Failing failing prefix border) = 0
-testRefusal (Extension.Refused e) = e
-
-abbrev pub signRefusal : Comparison → ℕ
-signRefusal (Comparison.Sign s) = 0
-signRefusal (Comparison.Refused e) = e
 
 -- ---- demand 1: "The answer to every call, for every input, is a result or one of eight numbered refusals; .. and paper 01 fixes the condition, the order and
 -- every buffer for each refusal." The buffers are in the promises themselves.

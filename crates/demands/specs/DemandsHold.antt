@@ -1,6 +1,6 @@
 -- THEOREMS demand-1, demand-2, demand-3: the customer's demands hold of every answer that meets the calls' promises.
 use mathlib.Core.Path.{_≡_, refl, ap, sym, _∙_}
-use mathlib.Core.Bool.{Bool, true, false}
+use mathlib.Core.Bool.{true}
 use mathlib.Core.Logic.{_⊎_, inl, inr}
 use mathlib.Core.List.{List, _∷_, List·Memᴰ}
 use Prim.Native.Nat.{ℕ, _≤_, _<_}
@@ -9,8 +9,8 @@ use lib.ListN.{length, take, drop, length-drop}
 use lib.Seq.{take-at}
 use lib.IntN.{ℤ, pos, negsuc}
 use lib.Dec.{ltb}
-use Rattle.words.specs.Words.{isInverseLyndon, sign}
-use Rattle.words.specs.Factorizations.{failingLength, prefixLength, borderLength, icfl, icflEnds, cflInEnds}
+use Rattle.words.specs.Words.{sign}
+use Rattle.words.specs.Factorizations.{icfl, icflEnds, cflInEnds}
 use Rattle.words.specs.lyndon.AntiLyndonLaws.{longest-is, longest-positive}
 use Rattle.words.specs.uniqueness.IcflUnfold.{icfl-whole, icfl-step}
 use Rattle.words.specs.cfl_in.CflInIs.{cfl-in-is}
@@ -20,18 +20,18 @@ use Rattle.words.specs.places.Ends.{ends-boundary}
 use Rattle.words.specs.orders.SignLaws.{SignOf, before, equal, after, sign-is}
 use Rattle.words.specs.places.Demand3 as theory
 use Rattle.checks.specs.Lines.{Line, tried, decided}
-use Rattle.checks.specs.Answers.{numberOf, Filled}
+use Rattle.checks.specs.Answers.{numberOf, countRefusal, Filled}
 use Rattle.checks.specs.declared.Checked.{Checked}
 use Rattle.checks.specs.declared.Checked.the-variants.{Passed, Refused}
 use Rattle.checks.specs.declared.Counted.{Counted}
 use Rattle.checks.proofs.LineLaws.{reading, everyNumber, among, first-listed, zero-passes, filled-counted}
-use Rattle.extension.specs.declared.Extension.{Extension}
-use Rattle.extension.specs.Extension.{verdictAs, extensionOf, extensionLines}
+use Rattle.extension.specs.Extension.{testRefusal, extensionLines}
+use Rattle.extension.proofs.VerdictLaws.{verdict-refusal}
 use Rattle.compare.specs.declared.suffixes.Comparison.{Comparison}
-use Rattle.compare.specs.Compare.{compareLines}
+use Rattle.compare.specs.Compare.{signRefusal, compareLines}
 use Rattle.compare.proofs.ComparisonLaws.{Within, within-passes}
 use Rattle.reading.specs.Summary.{summaryLines, summaryOf, emptySummary}
-use Rattle.demands.specs.Demands.{countRefusal, testRefusal, signRefusal, Answers, Demand1, Gave, Demand2, Demand3, Runs}
+use Rattle.demands.specs.Demands.{Answers, Demand1, Gave, Demand2, Demand3, Runs}
 
 -- ---- demand 1
 
@@ -45,15 +45,6 @@ answers {e} numbers lines z h = record { first = z; listed = go (first-listed li
 
 filled-refusal : {lines : List Line} {n : ℕ} {vs buffer buffer′ : List ℕ} {r : Counted} → Filled lines n vs buffer r buffer′ → countRefusal r ≡ numberOf (tried lines)
 filled-refusal {lines} {n} f = ap countRefusal (f .answer) ∙ reading countRefusal (Counted.Count n) (λ (i : ℕ). Counted.Refused i) (tried lines)
-
-verdict-refusal : (w : List ℕ) (k : Checked) → testRefusal (decided k (extensionOf w) Extension.Refused) ≡ numberOf k
-unfolding extensionOf
-verdict-refusal w (Refused number) = refl
-verdict-refusal w Passed = go (isInverseLyndon w)
-  where
-    go : (t : Bool) → testRefusal (verdictAs t (failingLength w) (prefixLength w) (borderLength w)) ≡ 0
-    go true = refl
-    go false = refl
 
 summary-refusal : (es : List ℕ) (k : Checked) → decided k (summaryOf es) emptySummary .refusal ≡ numberOf k
 unfolding summaryOf

@@ -1,87 +1,69 @@
--- The calls' promises as numbers: counts (filled-numbers, and that they fit: icfl-small, cfl-in-small, table-small), the test (test-numbers, test-small),
--- the sign (sign-numbers), the part's places (factor-refused, factor-found).
+-- The calls' promises as numbers: counts (filled-numbers, and that they fit: icfl-small, cfl-in-small, table-small), the test (test-numbers,
+-- test-holds, test-small), the sign (sign-numbers, sign-refused).
 use mathlib.Core.Path.{_≡_, refl, ap, _∙_}
-use mathlib.Core.Bool.{Bool, true, false}
-use mathlib.Core.List.{List, [], _∷_}
-use Prim.Native.Nat.{ℕ, zero, suc, _≤_}
+use mathlib.Core.Bool.{true, false}
+use mathlib.Core.List.{List, [], _∷_, _++_}
+use Prim.Native.Nat.{ℕ, _≤_}
 use native.Mathlib.Omega.{arith}
-use lib.ListN.{length, getD}
+use lib.ListN.{length}
 use lib.IntN.{ℤ, pos}
 use mir.Syntax.{w8}
 use mir.Val.{toZ, ofZ}
 use types.Run.{OneOf}
 use denote.Enum.Declared.{tagOf}
-use Rattle.words.specs.Words.{isInverseLyndon, sign}
+use borrow.Author.Tests.{eqb-false, ltb-false}
+use Rattle.words.specs.Words.{sign}
 use Rattle.words.specs.Factorizations.{failingLength, prefixLength, borderLength}
 use Rattle.words.specs.orders.SignLaws.{SignOf, before, equal, after, sign-is}
 use Rattle.words.specs.places.EndsRise.{rises-few, icfl-ends-rise, cfl-in-ends-rise}
-use Rattle.words.specs.orders.Decisions.{decides-false}
-use Rattle.words.specs.lyndon.WordTests.{inverse-lyndon-test}
-use Rattle.words.specs.icfl.BorderLength.{Step, step-is}
-use Rattle.words.specs.icfl.Failing.{failing-is}
-use Rattle.checks.specs.Refusals.{firstRefusal, recordRefusal, workRefusal}
-use Rattle.checks.specs.Answers.{countedAs, Filled}
+use Rattle.checks.specs.Lines.{Line, tried, decided, recordLines}
+use Rattle.checks.specs.Answers.{numberOf, Filled}
+use Rattle.checks.specs.declared.Checked.{Checked}
+use Rattle.checks.specs.declared.Checked.the-variants.{Passed, Refused}
 use Rattle.checks.specs.declared.Counted.{Counted}
-use Rattle.checks.proofs.LineLaws.{first-none}
-use Rattle.checks.proofs.RefusalLaws.{Accepted, record-accepted}
+use Rattle.checks.proofs.LineLaws.{reading, unmet}
 use Rattle.extension.proofs.Extension.{the-type}
 use Rattle.extension.specs.declared.Extension.{Extension}
-use Rattle.extension.specs.Extension.{verdictAs, extensionOf, extensionAs, extensionLines, ExtensionFound}
+use Rattle.extension.specs.Extension.{extensionOf, testRefusal, extensionLines, ExtensionFound}
+use Rattle.extension.proofs.VerdictLaws.{fails-told, verdict-read, verdict-refusal}
 use Rattle.icfl.specs.Icfl.{IcflDone}
 use Rattle.cfl.specs.CflIn.{CflInDone}
 use Rattle.table.specs.Table.{Tabled}
 use Rattle.compare.specs.declared.suffixes.Comparison.{Comparison}
-use Rattle.compare.specs.Compare.{compareRefusal, comparisonAs}
-use Rattle.reading.specs.Factor.{factorRefusal, factorFrom}
+use Rattle.compare.specs.Compare.{compareLines, Compared}
 use Rattle.exports.specs.declared.Reply.{Reply}
-use Rattle.exports.specs.Exports.{beside, ifFailing, TestNumbers, FilledNumbers, SignNumber, FactorNumbers, Small, replyOf}
+use Rattle.exports.specs.Exports.{ifFailing, TestNumbers, FilledNumbers, SignNumber, Small, replyOf}
 
 -- ---- counts
 
-reply-refusal : (e n : ℕ) → replyOf (countedAs e n) .refusal ≡ e
-reply-refusal zero n = refl
-reply-refusal (suc e) n = refl
-
-reply-count : (e n : ℕ) → replyOf (countedAs e n) .count ≡ beside e n
-reply-count zero n = refl
-reply-count (suc e) n = refl
-
-pub filled-numbers : {lines vs buffer buffer′ : List ℕ} {n : ℕ} {r : Counted} → Filled lines n vs buffer r buffer′ → (x : Reply) → x ≡ replyOf r
+pub filled-numbers : {lines : List Line} {n : ℕ} {vs buffer buffer′ : List ℕ} {r : Counted} → Filled lines n vs buffer r buffer′ → (x : Reply) → x ≡ replyOf r
     → FilledNumbers lines n vs buffer (x .refusal) (x .count) buffer′
-filled-numbers {lines} {n = n} f x e =
-    let z : x ≡ replyOf (countedAs (firstRefusal lines) n) = e ∙ ap replyOf (f .answer) in
+filled-numbers {lines} {n} f x e =
+    let z : x ≡ replyOf (decided (tried lines) (Counted.Count n) Counted.Refused) = e ∙ ap replyOf (f .answer) in
     record {
-      refusal = ap (λ (t : Reply). t .refusal) z ∙ reply-refusal (firstRefusal lines) n;
-      count-is = ap (λ (t : Reply). t .count) z ∙ reply-count (firstRefusal lines) n;
+      refusal = ap (λ (t : Reply). t .refusal) z ∙ reading (λ t. replyOf t .refusal) (Counted.Count n) (λ (i : ℕ). Counted.Refused i) (tried lines);
+      count-is = ap (λ (t : Reply). t .count) z ∙ reading (λ t. replyOf t .count) (Counted.Count n) (λ (i : ℕ). Counted.Refused i) (tried lines);
       result = f .result;
     }
 
--- a record that is not refused is short
-accepted : (w lines : List ℕ) → firstRefusal (recordRefusal w ∷ lines) ≡ 0 → length w ≤ 4096
-accepted w lines e = record-accepted w (first-none (recordRefusal w) lines e .0) .short
-
-small : (w lines : List ℕ) (n : ℕ) (vs buffer buffer′ : List ℕ) (r : Counted) → n ≤ length w → Filled (recordRefusal w ∷ lines) n vs buffer r buffer′ → Small r
-small w lines n vs buffer buffer′ r l f = rw (f .answer) (go (firstRefusal (recordRefusal w ∷ lines)) refl)
+-- a record that is not refused is short, and so is every answer about it
+small : (w : List ℕ) (lines : List Line) {n : ℕ} {vs buffer buffer′ : List ℕ} {r : Counted} → n ≤ length w → Filled (recordLines w ++ lines) n vs buffer r buffer′ → Small r
+small w lines {n} l f = rw (f .answer) (go (tried (recordLines w ++ lines)) refl)
   where
-    go : (e : ℕ) → firstRefusal (recordRefusal w ∷ lines) ≡ e → Small (countedAs e n)
-    go zero z = omega (arith, accepted w lines z)
-    go (suc e) z = tt
+    go : (k : Checked) → tried (recordLines w ++ lines) ≡ k → Small (decided k (Counted.Count n) Counted.Refused)
+    go Passed z = omega (arith, ltb-false 4096 (length w) (unmet (recordLines w ++ lines) z .1 .0))
+    go (Refused number) z = tt
 
 pub icfl-small : (w work ends work′ ends′ : List ℕ) (r : Counted) → IcflDone w work ends r work′ ends′ → Small r
-icfl-small w work ends work′ ends′ r f = small w _ _ _ _ _ r (omega (arith, rises-few (icfl-ends-rise w))) (f .filled)
+icfl-small w work ends work′ ends′ r f = small w _ (omega (arith, rises-few (icfl-ends-rise w))) (f .filled)
 
 pub cfl-in-small : (w ends ends′ : List ℕ) (r : Counted) → CflInDone w ends r ends′ → Small r
-cfl-in-small w ends ends′ r f = small w _ _ _ _ _ r (omega (arith, rises-few (cfl-in-ends-rise w))) f
+cfl-in-small w ends ends′ r f = small w _ (omega (arith, rises-few (cfl-in-ends-rise w))) f
 
 pub table-small : (w out out′ : List ℕ) (r : Counted) → Tabled w out r out′ → Small r
-table-small w out out′ r f = small w _ _ _ _ _ r (omega arith) f
+table-small w out out′ r f = small w _ (omega arith) f
 
 -- ---- the test
-
-abbrev numberOf : Extension → ℕ
-numberOf Extension.InverseLyndon = 0
-numberOf (Extension.Failing l p r) = 0
-numberOf (Extension.Refused e) = e
 
 -- L, |p| and |r| by their place
 abbrev failingOf : Extension → ℕ
@@ -99,33 +81,22 @@ borderOf Extension.InverseLyndon = 0
 borderOf (Extension.Failing l p r) = r
 borderOf (Extension.Refused e) = 0
 
--- a reading of the verdict that is 0 beside a refusal
-verdict-number : (f : Extension → ℕ) (w : List ℕ) (n : ℕ) → ((t : Bool) → f (verdictAs t (failingLength w) (prefixLength w) (borderLength w)) ≡ ifFailing t n)
-    → ((e : ℕ) → f (Extension.Refused e) ≡ 0) → (e : ℕ) → f (extensionAs e (extensionOf w)) ≡ beside e (ifFailing (isInverseLyndon w) n)
-unfolding extensionOf
-verdict-number f w n g h zero = g (isInverseLyndon w)
-verdict-number f w n g h (suc e) = h (suc e)
-
-refusal-number : (w : List ℕ) (e : ℕ) → numberOf (extensionAs e (extensionOf w)) ≡ e
-unfolding extensionOf
-refusal-number w zero = go (isInverseLyndon w)
-  where
-    go : (t : Bool) → numberOf (verdictAs t (failingLength w) (prefixLength w) (borderLength w)) ≡ 0
-    go true = refl
-    go false = refl
-refusal-number w (suc e) = refl
-
-pub test-numbers : (w work work′ : List ℕ) (a : Extension) → ExtensionFound w work a work′ → TestNumbers w work (numberOf a) (failingOf a) (prefixOf a) (borderOf a) work′
-test-numbers w work work′ a f = record {
-  refusal = ap numberOf (f .answer) ∙ refusal-number w (firstRefusal (extensionLines w (length work)));
-  failing-is = ap failingOf (f .answer)
-      ∙ verdict-number failingOf w (failingLength w) (λ t. elim t [ true ↦ refl | false ↦ refl ]) (λ e. refl) (firstRefusal (extensionLines w (length work)));
-  prefix-is = ap prefixOf (f .answer)
-      ∙ verdict-number prefixOf w (prefixLength w) (λ t. elim t [ true ↦ refl | false ↦ refl ]) (λ e. refl) (firstRefusal (extensionLines w (length work)));
-  border-is = ap borderOf (f .answer)
-      ∙ verdict-number borderOf w (borderLength w) (λ t. elim t [ true ↦ refl | false ↦ refl ]) (λ e. refl) (firstRefusal (extensionLines w (length work)));
-  buffer = f .buffer;
-}
+pub test-numbers : (w work work′ : List ℕ) (a : Extension) → ExtensionFound w work a work′ → TestNumbers w work (testRefusal a) (failingOf a) (prefixOf a) (borderOf a) work′
+test-numbers w work work′ a f =
+    let k = tried (extensionLines w (length work)) in
+    record {
+      refusal = ap testRefusal (f .answer) ∙ verdict-refusal w k;
+      failing-is =
+          ap failingOf (f .answer)
+          ∙ verdict-read failingOf (ifFailing (failingLength w)) (λ number. 0) w (λ t. elim t [ true ↦ refl | false ↦ refl ]) (λ number. refl) k;
+      prefix-is =
+          ap prefixOf (f .answer)
+          ∙ verdict-read prefixOf (ifFailing (prefixLength w)) (λ number. 0) w (λ t. elim t [ true ↦ refl | false ↦ refl ]) (λ number. refl) k;
+      border-is =
+          ap borderOf (f .answer)
+          ∙ verdict-read borderOf (ifFailing (borderLength w)) (λ number. 0) w (λ t. elim t [ true ↦ refl | false ↦ refl ]) (λ number. refl) k;
+      buffer = f .buffer;
+    }
 
 -- the first case, which holds nothing
 pub test-holds : (w work work′ : List ℕ) (a : Extension) → OneOf (0 ∷ []) (tagOf the-type a) → ExtensionFound w work a work′ → TestNumbers w work 0 0 0 0 work′
@@ -140,26 +111,15 @@ pub record Bounded (l p r : ℕ) : Type 0 where
   pub border : r ≤ 4096
 
 pub test-small : (w work work′ : List ℕ) (l p r : ℕ) → ExtensionFound w work (Extension.Failing l p r) work′ → Bounded l p r
-unfolding extensionOf
-test-small w work work′ l p r f = go (firstRefusal (extensionLines w (length work))) refl (f .answer)
+test-small w work work′ l p r f = go (tried (extensionLines w (length work))) refl (f .answer)
   where
-    verdict : Accepted w → (t : Bool) → isInverseLyndon w ≡ t → Extension.Failing l p r ≡ verdictAs t (failingLength w) (prefixLength w) (borderLength w) → Bounded l p r
-    verdict a true d z = let b : _≡_ {A = ℕ} 0 1 = cc in absurd (omega arith)
-    verdict a false d z =
-        let n = decides-false (inverse-lyndon-test w) d in
-        let s : Step w = step-is w (a .nonempty) n in
-        let x : l ≡ failingLength w = cc in
-        let y : p ≡ prefixLength w = cc in
-        let q : r ≡ borderLength w = cc in
-        record {
-          failing = omega (arith, a .short, failing-is w (a .nonempty) n .inside);
-          prefix = omega (arith, a .short, s .failing .inside);
-          border = omega (arith, a .short, s .failing .inside);
-        }
-
-    go : (e : ℕ) → firstRefusal (extensionLines w (length work)) ≡ e → Extension.Failing l p r ≡ extensionAs e (extensionOf w) → Bounded l p r
-    go zero z x = verdict (record-accepted w (first-none (recordRefusal w) (workRefusal (length work) (length w) ∷ []) z .0)) (isInverseLyndon w) refl x
-    go (suc e) z x = let b : _≡_ {A = ℕ} 0 1 = cc in absurd (omega arith)
+    go : (k : Checked) → tried (extensionLines w (length work)) ≡ k → Extension.Failing l p r ≡ decided k (extensionOf w) Extension.Refused → Bounded l p r
+    go Passed z x =
+        let u = unmet (extensionLines w (length work)) z in
+        let short = ltb-false 4096 (length w) (u .1 .0) in
+        let v = fails-told w l p r (omega (arith, eqb-false (length w) 0 (u .0))) x in
+        record { failing = omega (arith, v .upto); prefix = omega (arith, v .inside); border = omega (arith, v .inside) }
+    go (Refused number) z x = let b : _≡_ {A = ℕ} 0 1 = cc in absurd (omega arith)
 
 -- ---- the sign
 
@@ -169,33 +129,19 @@ sign-read (before n h) = refl
 sign-read (equal e) = refl
 sign-read (after n h) = refl
 
-pub sign-numbers : (w : List ℕ) (first end start other : ℕ) (s : ℤ) → Comparison.Sign s ≡ comparisonAs (compareRefusal w first end start other) (sign w first end start other)
-    → SignNumber w first end start other 0 (toZ w8 (ofZ w8 s))
-sign-numbers w first end start other s x = go (compareRefusal w first end start other) refl x
-  where
-    go : (e : ℕ) → compareRefusal w first end start other ≡ e → Comparison.Sign s ≡ comparisonAs e (sign w first end start other)
-        → SignNumber w first end start other 0 (toZ w8 (ofZ w8 s))
-    go zero z x = let y : s ≡ sign w first end start other = cc in record { refusal = rw z; sign-is = rw (z, y) (sign-read (sign-is w first end start other)) }
-    go (suc e) z x = let b : _≡_ {A = ℕ} 0 1 = cc in absurd (omega arith)
+module _ (w : List ℕ) (first end start other : ℕ) where
+  pub sign-numbers : (s : ℤ) → Compared w first end start other (Comparison.Sign s) → SignNumber w first end start other 0 (toZ w8 (ofZ w8 s))
+  sign-numbers s f = go (tried (compareLines w first end start other)) refl (f .answer)
+    where
+      go : (k : Checked) → tried (compareLines w first end start other) ≡ k → Comparison.Sign s ≡ decided k (Comparison.Sign (sign w first end start other)) Comparison.Refused
+          → SignNumber w first end start other 0 (toZ w8 (ofZ w8 s))
+      go Passed z x = let y : s ≡ sign w first end start other = cc in record { refusal = rw z; sign-is = rw (z, y) (sign-read (sign-is w first end start other)) }
+      go (Refused number) z x = let b : _≡_ {A = ℕ} 0 1 = cc in absurd (omega arith)
 
-pub sign-refused : (w : List ℕ) (first end start other number : ℕ)
-    → Comparison.Refused number ≡ comparisonAs (compareRefusal w first end start other) (sign w first end start other)
-    → SignNumber w first end start other number (pos 0)
-sign-refused w first end start other number x = go (compareRefusal w first end start other) refl x
-  where
-    go : (e : ℕ) → compareRefusal w first end start other ≡ e → Comparison.Refused number ≡ comparisonAs e (sign w first end start other)
-        → SignNumber w first end start other number (pos 0)
-    go zero z x = let b : _≡_ {A = ℕ} 0 1 = cc in absurd (omega arith)
-    go (suc e) z x = let y : number ≡ suc e = cc in record { refusal = rw (z, y); sign-is = rw z }
-
--- ---- the part's places
-
-pub factor-refused : (w es : List ℕ) (k number : ℕ) → number ≡ factorRefusal w es k → ¬ (number ≡ 0) → FactorNumbers w es k number 0 0
-factor-refused w es k number e n = go (factorRefusal w es k) refl
-  where
-    go : (m : ℕ) → factorRefusal w es k ≡ m → FactorNumbers w es k number 0 0
-    go zero z = absurd (n (e ∙ z))
-    go (suc m) z = record { refusal = e; first-is = rw z; end-is = rw z }
-
-pub factor-found : (w es : List ℕ) (k first : ℕ) → factorRefusal w es k ≡ 0 → first ≡ factorFrom es k → FactorNumbers w es k 0 first (getD es k 0)
-factor-found w es k first z e = record { refusal = rw z; first-is = rw z e; end-is = rw z }
+  pub sign-refused : (m : ℕ) → Compared w first end start other (Comparison.Refused m) → SignNumber w first end start other m (pos 0)
+  sign-refused m f = go (tried (compareLines w first end start other)) refl (f .answer)
+    where
+      go : (k : Checked) → tried (compareLines w first end start other) ≡ k → Comparison.Refused m ≡ decided k (Comparison.Sign (sign w first end start other)) Comparison.Refused
+          → SignNumber w first end start other m (pos 0)
+      go Passed z x = let b : _≡_ {A = ℕ} 0 1 = cc in absurd (omega arith)
+      go (Refused number) z x = let y : m ≡ number = cc in record { refusal = rw (z, y); sign-is = rw z }

@@ -1,11 +1,12 @@
-//! The calls for C and Rust: include/metsroeb.h has their signatures. Each returns the refusal's number, 0 for a result; results go to numbers that the caller lends, 0 beside a
-//! refusal.
+//! The calls for C and Rust: include/metsroeb.h has their signatures. Each returns the refusal's number, 0 for a result; results go to
+//! numbers that the caller lends, 0 beside a refusal.
+use checks::Checked;
 use checks::Counted;
 use compare::Comparison;
 use extension::Extension;
 use reading::Summary;
 ghost use mathlib.Core.Path.{_≡_};
-ghost use Rattle.reading.specs.Summary.{summaryRefusal, summaryAs};
+ghost use Rattle.reading.specs.Summary.{Summarized};
 ghost use Rattle.exports.specs.Exports.{Small, replyOf, TestNumbers, IcflNumbers, CflInNumbers, TableNumbers, SignNumber, FactorNumbers};
 
 /// A count or a refusal, as two numbers.
@@ -129,12 +130,12 @@ pub extern "C" fn metsroeb_factor(
 ) -> u8
     ensures { λ r. ⌜ FactorNumbers (now (word .entry)) (now (ends .entry)) number r (now (first .exit)) (now (end .exit)) ⌝ }
 {
-    let refused = reading::factor_refusal(word, ends, number);
-    if refused != 0 {
+    let admitted = reading::admit_factor(word, ends, number);
+    let Checked::Passed = admitted else {
         *first = 0;
         *end = 0;
-        return refused;
-    }
+        return admitted.number();
+    };
     *first = reading::factor_from(ends, number);
     *end = ends[number];
     0
@@ -142,7 +143,7 @@ pub extern "C" fn metsroeb_factor(
 
 #[no_mangle]
 pub extern "C" fn metsroeb_summarize(word: &[u8], ends: &[u16]) -> Summary
-    ensures { λ r. ⌜ r ≡ summaryAs (summaryRefusal (now (word .entry)) (now (ends .entry))) (now (ends .entry)) ⌝ }
+    ensures { λ r. ⌜ Summarized (now (word .entry)) (now (ends .entry)) r ⌝ }
 {
     reading::summarize(word, ends)
 }

@@ -23,6 +23,12 @@ verdictAs false failing prefix border = Failing failing prefix border
 unfoldable pub extensionOf : List ℕ → Extension
 extensionOf w = verdictAs (isInverseLyndon w) (failingLength w) (prefixLength w) (borderLength w)
 
+-- paper 01's number of an answer: 0 for a result
+abbrev pub testRefusal : Extension → ℕ
+testRefusal InverseLyndon = 0
+testRefusal (Failing failing prefix border) = 0
+testRefusal (Refused number) = number
+
 -- the lines of the table that the test tries: 1, 2 and 3
 abbrev pub extensionLines : List ℕ → ℕ → List Line
 extensionLines w entries = recordLines w ++ workLine entries (length w) ∷ []

@@ -1,61 +1,21 @@
 -- The forward pass, over plain lists: whatever the breaks of the rest are, with those on the stack in front they are the breaks of the word.
 use mathlib.Core.Path.{_≡_, refl, ap, sym, _∙_}
-use mathlib.Core.Bool.{Bool, true, false}
-use mathlib.Core.Logic.{inl, inr}
 use mathlib.Core.List.{List, [], _∷_, _++_, append-assoc, append-nil}
-use Prim.Native.Nat.{ℕ, suc, _+_, _-_, _*_, _≤_, _<_}
+use Prim.Native.Nat.{ℕ, suc, _+_, _*_, _≤_, _<_}
 use native.Mathlib.Omega.{arith}
 use lib.ListN.{length, take, drop, set, length-set, length-drop}
 use lib.Seq.{take-suc-set, drop-set-add, drop-set-lt, drop-drop}
-use Rattle.buffers.proofs.BufferLaws.{kept-past}
-use Rattle.buffers.proofs.PartLaws.{rest, rest-is}
 use types.Run.{OneOf}
 use denote.Enum.Declared.{tagOf}
-use Rattle.words.specs.Words.{InverseLyndon, isInverseLyndon}
-use Rattle.words.specs.Factorizations.{failingLength, prefixLength, borderLength}
-use Rattle.words.specs.orders.Decisions.{decides-true, decides-false}
-use Rattle.words.specs.lyndon.WordTests.{inverse-lyndon-test}
-use Rattle.words.specs.icfl.BorderLength.{step-is}
-use Rattle.words.specs.icfl.IcflFactors.{prefix-positive}
+use Rattle.buffers.proofs.BufferLaws.{kept-past}
+use Rattle.buffers.proofs.PartLaws.{rest, rest-is}
+use Rattle.words.specs.Factorizations.{prefixLength}
 use Rattle.words.specs.scan.Breaks.{Breaks, whole, break}
 use Rattle.extension.specs.declared.Extension.{Extension}
-use Rattle.extension.specs.Extension.{verdictAs, extensionOf, TestRoom, Verdict}
+use Rattle.extension.specs.Extension.{TestRoom, Verdict}
 use Rattle.extension.proofs.Extension.{the-type}
+use Rattle.extension.proofs.VerdictLaws.{Fails, fails-told, holds-told}
 use Rattle.icfl.specs.Icfl.{CutRoom, BreaksFound}
-
--- ---- what the verdict tells
-
-pub record Fails (v : List ℕ) (p r : ℕ) : Type 0 where
-  pub not : ¬ InverseLyndon v
-  pub prefix : p ≡ prefixLength v
-  pub border : r ≡ borderLength v
-  pub positive : 0 < p
-  pub inside : p + r < length v
-
-pub verdict-fails : (v : List ℕ) (l p r : ℕ) → 0 < length v → Extension.Failing l p r ≡ extensionOf v → Fails v p r
-unfolding extensionOf
-verdict-fails v l p r s e = go (isInverseLyndon v) refl e
-  where
-    go : (t : Bool) → isInverseLyndon v ≡ t → Extension.Failing l p r ≡ verdictAs t (failingLength v) (prefixLength v) (borderLength v) → Fails v p r
-    go true d z = let b : _≡_ {A = ℕ} 0 1 = cc in absurd (omega arith)
-    go false d z =
-        let n : ¬ InverseLyndon v = decides-false (inverse-lyndon-test v) d in
-        let step = step-is v s n in
-        let x : p ≡ prefixLength v = cc in
-        let y : r ≡ borderLength v = cc in
-        record { not = n; prefix = x; border = y; positive = omega (arith, prefix-positive v step); inside = omega (arith, step .failing .inside) }
-
-pub verdict-holds : (v : List ℕ) (a : Extension) → OneOf (0 ∷ 2 ∷ []) (tagOf the-type a) → a ≡ extensionOf v → InverseLyndon v
-unfolding extensionOf
-verdict-holds v a h e = go (isInverseLyndon v) refl a h e
-  where
-    go : (t : Bool) → isInverseLyndon v ≡ t → (a : Extension) → OneOf (0 ∷ 2 ∷ []) (tagOf the-type a)
-        → a ≡ verdictAs t (failingLength v) (prefixLength v) (borderLength v) → InverseLyndon v
-    go true d a h z = decides-true (inverse-lyndon-test v) d
-    go false d Extension.InverseLyndon h z = let b : _≡_ {A = ℕ} 0 1 = cc in absurd (omega arith)
-    go false d (Extension.Refused m) h z = let b : _≡_ {A = ℕ} 0 1 = cc in absurd (omega arith)
-    go false d (Extension.Failing l p r) (inl h) z = let b : _≡_ {A = ℕ} 1 0 = h in absurd (omega arith)
-    go false d (Extension.Failing l p r) (inr h) z = let b : _≡_ {A = ℕ} 1 2 = h in absurd (omega arith)
 
 -- ---- the stack
 
@@ -101,13 +61,13 @@ module _ (w work₀ work work₁ : List ℕ) (n from count : ℕ) (g : Finding w
     few = omega (arith, g .few, g .inside);
     breaks =
         rw (kept-from (length w) (omega arith), ← append-nil (take (2 * count) (drop (length w) work)))
-        (g .breaks [] (whole (verdict-holds (drop from w) a h (verdict .answer))));
+        (g .breaks [] (whole (holds-told (drop from w) a h (verdict .answer))));
     kept = kept-from (3 * length w) (omega arith) ∙ g .kept;
   }
 
   module _ (l p r : ℕ) (z : a ≡ Extension.Failing l p r) where
-    pub found : Fails (drop from w) p r
-    found = verdict-fails (drop from w) l p r (rw length-drop (omega (arith, g .inside))) (sym z ∙ verdict .answer)
+    pub found : Fails (drop from w) l p r
+    found = fails-told (drop from w) l p r (rw length-drop (omega (arith, g .inside))) (sym z ∙ verdict .answer)
 
     step-inside : from + p + r < length w
     step-inside = omega (arith, found .inside, length-drop from w)

@@ -3,7 +3,8 @@ use borrow.Author.Needs.{needs}
 use Prim.Native.Nat.{_+_, _-_, _*_, _≤_, _<_}
 use native.Mathlib.Omega.{arith}
 use lib.ListN.{length, drop, length-set, length-drop}
-use Rattle.icfl.proofs.Finding.{Finding, Fails, find-starts, find-fits, find-ends, found, find-on}
+use Rattle.extension.proofs.VerdictLaws.{Fails}
+use Rattle.icfl.proofs.Finding.{Finding, find-starts, find-fits, find-ends, found, find-on}
 use Rattle.icfl.proofs.find_breaks.Statement.{statement}
 use Rattle.icfl.proofs.find_breaks.Tie as tie
 
@@ -16,7 +17,8 @@ abbrev μ-loop : tie.MeasureT-loop
 -- after a failing test: p and r
 fails-at : (c : tie.After-known-told Inv-loop μ-loop)
     → (let turn = c .before .before .before .before .before .before .before .before .before in
-    Fails (drop (turn .loop .from) (turn .before .before .before .args .word .now)) (c .before .found .given .0 .1 .0) (c .before .found .given .0 .1 .1 .0))
+    Fails (drop (turn .loop .from) (turn .before .before .before .args .word .now)) (c .before .found .given .0 .0) (c .before .found .given .0 .1 .0)
+    (c .before .found .given .0 .1 .1 .0))
 fails-at c =
     let at-test = c .before .before .before .before .before in
     let turn = at-test .before .before .before .before in
