@@ -1,14 +1,12 @@
 -- THEOREM icfl-dominated. Each factor is inverse Lyndon, and every nonempty suffix of a factor is below the next factor by a
 -- mismatch (source 004, Lemma 4.9, and more). For inverse Lyndon words that is the same as: each factor is below the next by a mismatch, and
 -- no nonempty border of a factor begins the next (dominated-borders; for a list linked-borders; for icfl icfl-borders).
-use mathlib.Core.Path.{_≡_, refl}
+use mathlib.Core.Path.{refl}
 use mathlib.Core.Logic.{_↔_}
 use mathlib.Core.List.{List, []}
-use Prim.Native.Nat.{ℕ, _<_}
+use Prim.Native.Nat.{ℕ, zero, suc, _<_}
 use native.Mathlib.Omega.{arith}
-use native.Mathlib.Decide.{decLt}
-use lib.ListN.{length, take, drop, length-drop, take-append-drop}
-use lib.Seq.{length-take-le}
+use lib.ListN.{length, drop}
 use Rattle.words.specs.Words.{_≪_, _⊑_, InverseLyndon}
 use Rattle.words.specs.Factorizations.{icfl}
 use Rattle.words.specs.Statements.{DominatedBy, BelowByBorders, Linked}
@@ -16,7 +14,7 @@ use Rattle.words.specs.places.LinkedLaws.{linked-map}
 use Rattle.words.specs.orders.MismatchLaws.{≪-trans, ≪-not-⊑}
 use Rattle.words.specs.orders.LexLaws.{_≤ₗ_, lost, pre, ≤ₗ-≪-trans}
 use Rattle.words.specs.lyndon.WordTests.{suffix-below}
-use Rattle.words.specs.lyndon.Suffixes.{dominated}
+use Rattle.words.specs.lyndon.Suffixes.{by-places, dominated}
 use Rattle.words.specs.icfl.IcflFactors.{icfl-factors}
 
 pub icfl-dominated : (w : List ℕ) → Linked InverseLyndon DominatedBy (icfl w)
@@ -25,21 +23,20 @@ icfl-dominated w = icfl-factors w .dominated
 -- ---- the same by borders
 
 pub dominated-borders : (m n : List ℕ) → InverseLyndon m → DominatedBy m n ↔ BelowByBorders m n
-dominated-borders m n k = (λ d. (d [] m refl (k .nonempty), λ u s e p q h b. ≪-not-⊑ (d u s e q) b), λ b. dominated (λ i l. from b i l (decLt 0 i)))
+dominated-borders m n k = (λ d. (d [] m refl (k .nonempty), λ u s e p q h b. ≪-not-⊑ (d u s e q) b), λ b. dominated (from b))
   where
     known : {x : List ℕ} → x ≤ₗ n → ¬ (x ⊑ n) → x ≪ n
     known (lost h) b = h
     known (pre h) b = absurd (b h)
 
-    from : BelowByBorders m n → (i : ℕ) → i < length m → Dec (0 < i) → drop i m ≪ n
-    from b i l (no p) = rw (let z : i ≡ 0 = omega arith in z) (b .0)
-    from b i l (yes p) = near (suffix-below k i)
+    from : BelowByBorders m n → (i : ℕ) → i < length m → drop i m ≪ n
+    from b zero l = b .0
+    from b (suc i) l = near (suffix-below k (suc i))
       where
-        near : drop i m ≤ₗ m → drop i m ≪ n
+        near : drop (suc i) m ≤ₗ m → drop (suc i) m ≪ n
         near (lost h) = ≪-trans h (b .0)
         near (pre h) =
-            known (≤ₗ-≪-trans (pre h) (b .0))
-            (b .1 (take i m) (drop i m) (take-append-drop i m) (rw (length-take-le i m (omega arith)) p) (rw length-drop (omega arith)) h)
+            known (≤ₗ-≪-trans (pre h) (b .0)) (by-places (λ s. s ⊑ m → ¬ (s ⊑ n)) m 1 (b .1) (suc i) (omega arith) l h)
 
 pub linked-borders : (ms : List (List ℕ)) → Linked InverseLyndon DominatedBy ms ↔ Linked InverseLyndon BelowByBorders ms
 linked-borders ms = (linked-map (λ m n k. dominated-borders m n k .0), linked-map (λ m n k. dominated-borders m n k .1))

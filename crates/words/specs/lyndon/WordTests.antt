@@ -38,12 +38,12 @@ proper-suffix-test P test d a v = decides-map
 -- ---- inverse Lyndon words
 
 pub suffix-below : {w : List ℕ} → InverseLyndon w → (i : ℕ) → drop i w ≤ₗ w
-suffix-below {w} k i = go (decLt 0 i) (decLt i (length w))
+suffix-below {w} k zero = ≤ₗ-refl w
+suffix-below {w} k (suc i) = go (decLt (suc i) (length w))
   where
-    go : Dec (0 < i) → Dec (i < length w) → drop i w ≤ₗ w
-    go (no p) d = rw (let z : i ≡ 0 = omega arith in z) (≤ₗ-refl w)
-    go (yes p) (no l) = rw (drop-of-length-le w {i = i} (omega arith)) (pre done)
-    go (yes p) (yes l) = <ₗ-≤ₗ (by-places (λ s. s <ₗ w) w 1 (k .exceeds) i p l)
+    go : Dec (suc i < length w) → drop (suc i) w ≤ₗ w
+    go (no l) = rw (drop-of-length-le w {i = suc i} (omega arith)) (pre done)
+    go (yes l) = <ₗ-≤ₗ (by-places (λ s. s <ₗ w) w 1 (k .exceeds) (suc i) (omega arith) l)
 
 pub inverse-lyndon : {w : List ℕ} → 0 < length w → ((i : ℕ) → drop i w ≤ₗ w) → InverseLyndon w
 inverse-lyndon {w} p f = record { nonempty = p; exceeds = by-parts (λ s. s <ₗ w) w 1 (λ i q l. go i q l (f i)) }

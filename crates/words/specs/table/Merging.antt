@@ -2,17 +2,16 @@
 -- and the longest one at j is known: if it comes after w[i..j), both make one (merged-more); else w[i..j) is the longest at i
 -- (merged-stops).
 use mathlib.Core.Path.{_≡_, _∙_}
-use mathlib.Core.List.{List, _++_}
+use mathlib.Core.List.{List, [], _++_, flatten, append-nil}
 use Prim.Native.Nat.{ℕ, _+_, _-_, _≤_, _<_}
-use native.Mathlib.Nat.{le-refl}
 use native.Mathlib.Omega.{arith}
 use lib.ListN.{length, take, drop, getD, length-drop, take-append-drop}
 use lib.Seq.{take-length, take-add, length-take-le, drop-drop, drop-cons}
 use Rattle.words.specs.Words.{_≺_, AntiLyndon}
 use Rattle.words.specs.Factorizations.{longestAntiLyndon, cflIn}
-use Rattle.words.specs.Statements.{EqualOrAfter, Next, by, more}
+use Rattle.words.specs.Statements.{EqualOrAfter, Next, end, by, none, more}
 use Rattle.words.specs.orders.InverseLaws.{_≼_, not-≺-≼}
-use Rattle.words.specs.lyndon.AntiLyndonLaws.{letter-anti-lyndon, append-anti-lyndon, ≼-equal-or-after, Longest, longest-is, longest-positive, longest-unique}
+use Rattle.words.specs.lyndon.AntiLyndonLaws.{letter-anti-lyndon, append-anti-lyndon, ≼-equal-or-after, Longest, longest-is, longest-positive}
 use Rattle.words.specs.cfl_in.CflInIs.{cfl-in-is}
 use Rattle.words.specs.cfl_in.CflInUnique.{first-longest}
 use Rattle.words.specs.cfl_in.CflInUnfold.{cfl-in-step}
@@ -27,11 +26,8 @@ longest-stops u v s l h = rw (cfl-in-is v .product) at (first-longest u (cflIn v
     next = rw (cfl-in-step v l) (by (≼-equal-or-after h))
 
 pub longest-whole : (u : List ℕ) → AntiLyndon u → longestAntiLyndon u ≡ length u
-longest-whole u s = longest-unique u (length u) (s .nonempty) (record {
-  upto = le-refl _;
-  word = λ p. rw (take-length u) s;
-  longer = λ j b c. absurd (omega arith);
-})
+unfolding flatten
+longest-whole u s = rw append-nil at (first-longest u [] (more s end none))
 
 -- ---- places of a word
 
