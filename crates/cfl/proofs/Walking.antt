@@ -8,6 +8,7 @@ use native.Mathlib.Numerals.{add-one}
 use native.Mathlib.Omega.{arith}
 use lib.ListN.{length, take, drop, set, length-set, length-drop, drop-of-length-le, take-append-drop}
 use lib.Seq.{getD-drop, take-suc-set, drop-set-lt, drop-drop, length-take-le}
+use Rattle.words.specs.Words.{mostLetters}
 use Rattle.buffers.proofs.BufferLaws.{kept-past}
 use Rattle.buffers.proofs.PartLaws.{rest, rest-is}
 use Rattle.words.specs.Factorizations.{longestAntiLyndon, cflIn, cflInEnds, endsFrom}
@@ -51,7 +52,7 @@ module _ {w : List ℕ} {from : ℕ} {r : Run} (t : RunAt w from r) where
         });
       }
 
-pub run-resumes : (w : List ℕ) (from : ℕ) (s : Scan) → length w ≤ 4096 → from < length w → s ≡ startState → Resumes (rest from w) s
+pub run-resumes : (w : List ℕ) (from : ℕ) (s : Scan) → length w ≤ mostLetters → from < length w → s ≡ startState → Resumes (rest from w) s
 run-resumes w from s h l e = rw (rest-is from w, e) (record { short = rw length-drop (omega arith); scanned = scanned-one _ (rw length-drop (omega arith)) })
 
 pub run-scanned : (w : List ℕ) (from : ℕ) (s : Scan) → Rests (rest from w) s

@@ -4,6 +4,7 @@ use mathlib.Core.Bool.{Bool, true, false}
 use mathlib.Core.List.{List, [], _∷_, _++_}
 use Prim.Native.Nat.{ℕ, _+_, _-_, _≤_, _<_}
 use lib.ListN.{length, drop}
+use Rattle.words.specs.Words.{mostLetters}
 use Rattle.buffers.specs.Buffers.{written}
 use Rattle.words.specs.Factorizations.{cflInEnds}
 use Rattle.scan.specs.State.{Rests}
@@ -29,12 +30,12 @@ pub record RunAt (w : List ℕ) (from : ℕ) (r : Run) : Type 0 where
   pub rests : Rests (drop from w) (record { border = r .until - 1 - from; length = r .until - 1 - from + r .length })
 
 pub record RunAsked (w : List ℕ) (from : ℕ) (known : Run) : Type 0 where
-  pub short : length w ≤ 4096
+  pub short : length w ≤ mostLetters
   pub inside : from < length w
   pub right : from < known .until → RunAt w from known
 
 pub record Room (w buffer : List ℕ) (store : Bool) : Type 0 where
-  pub short : length w ≤ 4096
+  pub short : length w ≤ mostLetters
   pub entries : store ≡ true → length (cflInEnds w) ≤ length buffer
 
 pub record Walked (w buffer : List ℕ) (store : Bool) (r : ℕ) (buffer′ : List ℕ) : Type 0 where

@@ -5,6 +5,7 @@ use scan::Scan;
 ghost use Prim.Native.Nat.{_≤_};
 ghost use lib.ListN.{length};
 ghost use Rattle.cfl.specs.CflIn.{CflInDone, Room, RoomChecked, RunAsked, RunAt, Walked};
+ghost use Rattle.words.specs.Words.{mostLetters};
 
 // A factor that is repeated: its length, and the place before which each of its repetitions begins.
 struct Run {
@@ -53,7 +54,7 @@ fn walk(word: &[u8], ends: &mut [u16], store: bool) -> usize
 
 // Line 4. There are no more factors than letters, so they are counted only for a buffer that is shorter than the word.
 fn check_room(word: &[u8], ends: &mut [u16]) -> Checked
-    requires { ⌜ length (now word) ≤ 4096 ⌝ }
+    requires { ⌜ length (now word) ≤ mostLetters ⌝ }
     ensures { λ r. ⌜ RoomChecked (now (word .entry)) (now (ends .entry)) r (now (ends .exit)) ⌝ }
 {
     if word.len() <= ends.len() {

@@ -5,6 +5,7 @@ use mathlib.Core.List.{List, [], _∷_}
 use Prim.Native.Nat.{ℕ}
 use lib.ListN.{length}
 use lib.Dec.{leb, ltb, eqb}
+use Rattle.words.specs.Words.{mostLetters}
 use Rattle.checks.specs.declared.Checked.{Checked}
 use Rattle.checks.specs.declared.Checked.the-variants.{Passed, Refused}
 
@@ -33,7 +34,7 @@ result unless lines then refusal = decided (tried lines) result refusal
 
 -- "length 0"; "length above 4,096"
 abbrev pub recordLines : List ℕ → List Line
-recordLines w = 1 when eqb (length w) 0 ∷ 2 when ltb 4096 (length w) ∷ []
+recordLines w = 1 when eqb (length w) 0 ∷ 2 when ltb mostLetters (length w) ∷ []
 
 -- "fewer entries than" are needed, in the work buffer
 abbrev pub workLine : ℕ → ℕ → Line

@@ -6,13 +6,15 @@ use native.Mathlib.Omega.{arith}
 use lib.ListN.{length}
 use lib.Dec.{leb, ltb}
 use borrow.Author.Tests.{ltb-false, leb-false, ne-eqb, le-ltb, lt-leb}
+use Rattle.words.specs.Words.{mostLetters}
 use Rattle.checks.specs.declared.Checked.the-variants.{Passed}
 use Rattle.checks.specs.Lines.{tried}
 use Rattle.checks.proofs.LineLaws.{unmet, either-unmet, all-pass}
+use Rattle.checks.proofs.RecordLaws.{accepted}
 use Rattle.compare.specs.Compare.{compareLines}
 
 pub record Within (w : List ℕ) (first end start other : ℕ) : Type 0 where
-  pub short : length w ≤ 4096
+  pub short : length w ≤ mostLetters
   pub inside : end ≤ length w
   pub start-from : first ≤ start
   pub start-below : start < end
@@ -27,7 +29,7 @@ module _ (w : List ℕ) (first end start other : ℕ) where
       let one = either-unmet (ltb start first) (leb end start) (u .1 .1 .1 .0) in
       let two = either-unmet (ltb other first) (leb end other) (u .1 .1 .1 .1 .0) in
       record {
-        short = ltb-false 4096 (length w) (u .1 .0);
+        short = accepted w _ e .short;
         inside = ltb-false (length w) end (range .1);
         start-from = ltb-false start first (one .0);
         start-below = leb-false end start (one .1);
@@ -41,7 +43,7 @@ module _ (w : List ℕ) (first end start other : ℕ) where
       all-pass (compareLines w first end start other)
       (rw (
         ne-eqb (length w) 0 (λ z. omega (arith, range, x .inside)),
-        le-ltb 4096 (length w) (x .short),
+        le-ltb mostLetters (length w) (x .short),
         lt-leb end first range,
         le-ltb (length w) end (x .inside),
         le-ltb start first (x .start-from),

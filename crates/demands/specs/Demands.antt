@@ -7,7 +7,7 @@ use Prim.Native.Nat.{ℕ, _-_, _≤_, _<_}
 use lib.ListN.{length, take, drop, getD}
 use lib.Seq.{slice}
 use lib.IntN.{pos, negsuc}
-use Rattle.words.specs.Words.{_≪_, _⊑_, _<ₗ_, InverseLyndon, AntiLyndon}
+use Rattle.words.specs.Words.{mostLetters, _≪_, _⊑_, _<ₗ_, InverseLyndon, AntiLyndon}
 use Rattle.words.specs.Factorizations.{icfl, icflEnds, cflIn, cflInEnds, lyndonTable, joinFirst, prefixLength, borderLength}
 use Rattle.words.specs.Statements.{CflInOf, Part}
 use Rattle.checks.specs.Lines.{Line, tried}
@@ -86,7 +86,7 @@ pub record Demand3 (w es ss : List ℕ) (compare : ℕ → ℕ → ℕ → ℕ �
 -- what the three calls gave for one record of 1 to 4,096 bytes
 pub record Runs (w es ss : List ℕ) (compare : ℕ → ℕ → ℕ → ℕ → Comparison) : Type 0 where
   pub nonempty : 1 ≤ length w
-  pub short : length w ≤ 4096
+  pub short : length w ≤ mostLetters
   pub pieceCut : (work ends work′ ends′ : List ℕ) × (n : ℕ) × IcflDone w work ends (Counted.Count n) work′ ends′ × (es ≡ take n ends′)
   pub strictCut : (ends ends′ : List ℕ) × (n : ℕ) × CflInDone w ends (Counted.Count n) ends′ × (ss ≡ take n ends′)
   pub comparison : (first end start other : ℕ) → Compared w first end start other (compare first end start other)

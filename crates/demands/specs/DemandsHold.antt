@@ -9,7 +9,7 @@ use lib.ListN.{length, take, drop, length-drop}
 use lib.Seq.{take-at}
 use lib.IntN.{ℤ, pos, negsuc}
 use lib.Dec.{ltb}
-use Rattle.words.specs.Words.{sign}
+use Rattle.words.specs.Words.{mostLetters, sign}
 use Rattle.words.specs.Factorizations.{icfl, icflEnds, cflInEnds}
 use Rattle.words.specs.lyndon.AntiLyndonLaws.{longest-is, longest-positive}
 use Rattle.words.specs.uniqueness.IcflUnfold.{icfl-whole, icfl-step}
@@ -76,7 +76,7 @@ gave {lines} {n} {vs} {buffer} p z f e =
       entries = rw (rw none at (f .result)) (take-at vs (drop (length vs) buffer) (length vs) refl);
     }
 
-pub demand-2 : (w : List ℕ) → 1 ≤ length w → length w ≤ 4096 → Demand2 w
+pub demand-2 : (w : List ℕ) → 1 ≤ length w → length w ≤ mostLetters → Demand2 w
 demand-2 w p q = record {
   pieces = λ work ends work′ ends′ r f. gave refl refl (f .filled);
   whole = icfl-whole w;

@@ -11,8 +11,7 @@ use mir.Syntax.{w8}
 use mir.Val.{toZ, ofZ}
 use types.Run.{OneOf}
 use denote.Enum.Declared.{tagOf}
-use borrow.Author.Tests.{eqb-false, ltb-false}
-use Rattle.words.specs.Words.{sign}
+use Rattle.words.specs.Words.{mostLetters, sign}
 use Rattle.words.specs.Factorizations.{failingLength, prefixLength, borderLength}
 use Rattle.words.specs.orders.SignLaws.{SignOf, before, equal, after, sign-is}
 use Rattle.words.specs.places.EndsRise.{rises-few, icfl-ends-rise, cfl-in-ends-rise}
@@ -21,7 +20,8 @@ use Rattle.checks.specs.Answers.{numberOf, Filled}
 use Rattle.checks.specs.declared.Checked.{Checked}
 use Rattle.checks.specs.declared.Checked.the-variants.{Passed, Refused}
 use Rattle.checks.specs.declared.Counted.{Counted}
-use Rattle.checks.proofs.LineLaws.{reading, unmet}
+use Rattle.checks.proofs.LineLaws.{reading}
+use Rattle.checks.proofs.RecordLaws.{accepted}
 use Rattle.extension.proofs.Extension.{the-type}
 use Rattle.extension.specs.declared.Extension.{Extension}
 use Rattle.extension.specs.Extension.{extensionOf, testRefusal, extensionLines, ExtensionFound}
@@ -51,7 +51,7 @@ small : (w : List ℕ) (lines : List Line) {n : ℕ} {vs buffer buffer′ : List
 small w lines {n} l f = rw (f .answer) (go (tried (recordLines w ++ lines)) refl)
   where
     go : (k : Checked) → tried (recordLines w ++ lines) ≡ k → Small (decided k (Counted.Count n) Counted.Refused)
-    go Passed z = omega (arith, ltb-false 4096 (length w) (unmet (recordLines w ++ lines) z .1 .0))
+    go Passed z = omega (arith, accepted w lines z .short)
     go (Refused number) z = tt
 
 pub icfl-small : (w work ends work′ ends′ : List ℕ) (r : Counted) → IcflDone w work ends r work′ ends′ → Small r
@@ -106,19 +106,18 @@ test-holds w work work′ (Extension.Refused e) h f = let z : _≡_ {A = ℕ} 2 
 
 -- L, |p| and |r| are at most the length
 pub record Bounded (l p r : ℕ) : Type 0 where
-  pub failing : l ≤ 4096
-  pub prefix : p ≤ 4096
-  pub border : r ≤ 4096
+  pub failing : l ≤ mostLetters
+  pub prefix : p ≤ mostLetters
+  pub border : r ≤ mostLetters
 
 pub test-small : (w work work′ : List ℕ) (l p r : ℕ) → ExtensionFound w work (Extension.Failing l p r) work′ → Bounded l p r
 test-small w work work′ l p r f = go (tried (extensionLines w (length work))) refl (f .answer)
   where
     go : (k : Checked) → tried (extensionLines w (length work)) ≡ k → Extension.Failing l p r ≡ decided k (extensionOf w) Extension.Refused → Bounded l p r
     go Passed z x =
-        let u = unmet (extensionLines w (length work)) z in
-        let short = ltb-false 4096 (length w) (u .1 .0) in
-        let v = fails-told w l p r (omega (arith, eqb-false (length w) 0 (u .0))) x in
-        record { failing = omega (arith, v .upto); prefix = omega (arith, v .inside); border = omega (arith, v .inside) }
+        let a = accepted w _ z in
+        let v = fails-told w l p r (a .nonempty) x in
+        record { failing = omega (arith, v .upto, a .short); prefix = omega (arith, v .inside, a .short); border = omega (arith, v .inside, a .short) }
     go (Refused number) z x = let b : _≡_ {A = ℕ} 0 1 = cc in absurd (omega arith)
 
 -- ---- the sign

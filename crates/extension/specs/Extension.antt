@@ -4,7 +4,7 @@ use mathlib.Core.Bool.{Bool, true, false}
 use mathlib.Core.List.{List, [], _∷_, _++_}
 use Prim.Native.Nat.{ℕ, _-_, _≤_, _<_}
 use lib.ListN.{length, drop, getD}
-use Rattle.words.specs.Words.{isInverseLyndon}
+use Rattle.words.specs.Words.{mostLetters, isInverseLyndon}
 use Rattle.words.specs.Factorizations.{failingLength, prefixLength, borderLength}
 use Rattle.words.specs.scan.Scanned.{Scanned}
 use Rattle.words.specs.scan.ScannedBorders.{Table}
@@ -43,7 +43,7 @@ pub record ExtensionFound (w work : List ℕ) (r : Extension) (work′ : List �
 -- a word that was accepted, and work entries for it
 pub record TestRoom (w work : List ℕ) : Type 0 where
   pub nonempty : 0 < length w
-  pub short : length w ≤ 4096
+  pub short : length w ≤ mostLetters
   pub entries : length w ≤ length work
 
 -- a scan that has stopped, with the longest borders of the prefixes before it

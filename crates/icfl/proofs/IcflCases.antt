@@ -3,7 +3,7 @@ use mathlib.Core.Path.{_≡_, refl, sym, _∙_}
 use mathlib.Core.List.{List, [], _∷_}
 use Prim.Native.Nat.{ℕ, _+_, _-_, _*_}
 use native.Mathlib.Omega.{arith}
-use borrow.Author.Tests.{eqb-false, ltb-false}
+use borrow.Author.Tests.{ltb-false}
 use lib.ListN.{length, drop}
 use lib.Dec.{ltb}
 use Rattle.words.specs.Factorizations.{icflEnds}
@@ -16,6 +16,7 @@ use Rattle.checks.specs.declared.Checked.{Checked}
 use Rattle.checks.specs.declared.Checked.the-variants.{Passed}
 use Rattle.checks.specs.declared.Counted.{Counted}
 use Rattle.checks.proofs.LineLaws.{IsRefused, refused, refused-first, passed-first, unmet, unless-but, filled-refused, filled-done}
+use Rattle.checks.proofs.RecordLaws.{accepted}
 use Rattle.icfl.specs.declared.Ends.{Ends}
 use Rattle.icfl.specs.Icfl.{icflAdmission, icflLines, workAfter, IcflDone, CutRoom, EndsFound}
 
@@ -35,12 +36,8 @@ module _ (w work buffer : List ℕ) where
   module _ (admitted : tried (icflAdmission w (length work)) ≡ Passed) where
     pub cut-room : CutRoom w work
     cut-room =
-        let u = unmet (icflAdmission w (length work)) admitted in
-        record {
-          nonempty = omega (arith, eqb-false (length w) 0 (u .0));
-          short = ltb-false 4096 (length w) (u .1 .0);
-          entries = ltb-false (length work) (3 * length w) (u .1 .1 .0);
-        }
+        let a = accepted w _ admitted in
+        record { nonempty = a .nonempty; short = a .short; entries = ltb-false (length work) (3 * length w) (unmet (icflAdmission w (length work)) admitted .1 .1 .0) }
 
     module _ {found : Ends} {work₁ work₂ : List ℕ} (x : EndsFound w work found work₁) (y : work₂ ≡ cleared (3 * length w) work₁) where
       zeroed : work₂ ≡ cleared (3 * length w) work unless icflLines w (length work) (length buffer) then workAfter (3 * length w) work

@@ -5,6 +5,7 @@ use mathlib.Core.List.{List, [], _∷_, _++_}
 use Prim.Native.Nat.{ℕ, _+_, _*_, _≤_, _<_}
 use lib.ListN.{length, take, drop, getD}
 use lib.Dec.{eqb}
+use Rattle.words.specs.Words.{mostLetters}
 use Rattle.words.specs.Factorizations.{icflEnds}
 use Rattle.words.specs.scan.Breaks.{Breaks, foldEnds}
 use Rattle.buffers.specs.Buffers.{cleared}
@@ -34,7 +35,7 @@ pub record IcflDone (w work buffer : List ℕ) (r : Counted) (work′ buffer′ 
 -- a word that was accepted, and work entries for it
 pub record CutRoom (w work : List ℕ) : Type 0 where
   pub nonempty : 0 < length w
-  pub short : length w ≤ 4096
+  pub short : length w ≤ mostLetters
   pub entries : 3 * length w ≤ length work
 
 pub record BreaksFound (w work : List ℕ) (count : ℕ) (work′ : List ℕ) : Type 0 where
@@ -45,7 +46,7 @@ pub record BreaksFound (w work : List ℕ) (count : ℕ) (work′ : List ℕ) : 
 -- the entry after the breaks
 pub record Stacked (stack : List ℕ) (count : ℕ) : Type 0 where
   pub entries : 2 * count < length stack
-  pub short : count ≤ 4096
+  pub short : count ≤ mostLetters
 
 pub record Joined (stack : List ℕ) (count top : ℕ) (stack′ : List ℕ) : Type 0 where
   pub upto : top ≤ 2 * count

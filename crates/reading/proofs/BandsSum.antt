@@ -6,6 +6,7 @@ use native.Mathlib.Nat.{zero-add}
 use native.Mathlib.Decide.{ℕ-discrete}
 use native.Mathlib.Omega.{arith}
 use lib.ListN.{length}
+use Rattle.words.specs.Words.{mostLetters}
 use Rattle.words.specs.places.EndsRise.{Rises, done, more, rises-few}
 use Rattle.checks.specs.declared.Checked.{Checked}
 use Rattle.checks.specs.declared.Checked.the-variants.{Passed, Refused}
@@ -40,7 +41,7 @@ counts-among (suc b) k n ns l h = go (ℕ-discrete n k) (λ m. counts-among b (s
     go (yes e) ih = omega (arith, count-here k n ns e, counts-below b (suc k) n ns (omega arith))
     go (no e) ih = omega (arith, count-other k n ns e, ih (omega arith))
 
-bands-sum-from : {n a : ℕ} {es : List ℕ} → Rises n a es → n ≤ 4096 → sum _+_ 0 (countsFrom 13 1 (bandsFrom a es)) ≡ length es
+bands-sum-from : {n a : ℕ} {es : List ℕ} → Rises n a es → n ≤ mostLetters → sum _+_ 0 (countsFrom 13 1 (bandsFrom a es)) ≡ length es
 unfolding lengthsFrom
 bands-sum-from (done e) l = counts-none 13 1
 bands-sum-from (more {b = a} {e = e} {es = es} h r) l =
@@ -48,7 +49,7 @@ bands-sum-from (more {b = a} {e = e} {es = es} h r) l =
     counts-among 13 1 (bitLength (e - a)) (bandsFrom e es) (bit-length-some (e - a) (omega arith)) (omega (arith, bit-length-most (e - a) (omega arith)))
     ∙ ap suc (bands-sum-from r l)
 
-pub bands-sum : (n : ℕ) (es : List ℕ) → Rises n 0 es → n ≤ 4096 → sum _+_ 0 (bandsOf es) ≡ length es
+pub bands-sum : (n : ℕ) (es : List ℕ) → Rises n 0 es → n ≤ mostLetters → sum _+_ 0 (bandsOf es) ≡ length es
 bands-sum n es r l = rw (bands-are-counts es) (bands-sum-from r l)
 
 -- beside a refusal all are 0

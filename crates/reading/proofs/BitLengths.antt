@@ -5,6 +5,7 @@ use Prim.Native.Nat.{ℕ, zero, suc, _+_, _-_, _/_, _^_, _≤_, _<_}
 use native.Mathlib.Nat.{add-suc, add-zero, pow-suc}
 use native.Mathlib.Omega.{arith}
 use lib.Count.{leadingZeros, leading-top}
+use Rattle.words.specs.Words.{mostLetters}
 use Rattle.reading.specs.Summary.{bitLengthWithin, bitLength}
 
 zeros-and-bits-within : (k n : ℕ) → leadingZeros k n + bitLengthWithin k n ≡ k
@@ -36,7 +37,7 @@ few-bits (suc k) j zero h = omega arith
 few-bits (suc k) zero (suc n) h = absurd (omega arith)
 few-bits (suc k) (suc j) (suc n) h = let r = few-bits k j (suc n / 2) (half-below j n h) in omega arith
 
-pub bit-length-most : (n : ℕ) → n ≤ 4096 → bitLength n ≤ 13
+pub bit-length-most : (n : ℕ) → n ≤ mostLetters → bitLength n ≤ 13
 unfolding bitLength
 bit-length-most n h = few-bits 16 13 n (omega arith)
 

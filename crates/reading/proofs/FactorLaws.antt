@@ -6,10 +6,12 @@ use Prim.Native.Nat.{ℕ, _≤_, _<_}
 use native.Mathlib.Omega.{arith}
 use lib.ListN.{length, getD}
 use borrow.Author.Tests.{ltb-false, leb-false}
+use Rattle.words.specs.Words.{mostLetters}
 use Rattle.words.specs.places.EndsRise.{Rises, rises-few, rises-inside, rises-at}
 use Rattle.checks.specs.declared.Checked.the-variants.{Passed}
 use Rattle.checks.specs.Lines.{tried}
 use Rattle.checks.proofs.LineLaws.{unmet}
+use Rattle.checks.proofs.RecordLaws.{accepted}
 use Rattle.checks.proofs.EndsLaws.{ends-accepted}
 use Rattle.reading.specs.Summary.{summaryLines, Summable}
 use Rattle.reading.specs.Factor.{factorLines, factorFrom}
@@ -28,13 +30,13 @@ placed w es k e =
 
 -- a record that is not too long, and ends that rise to its length
 pub record Listed (w es : List ℕ) : Type 0 where
-  pub letters : length w ≤ 4096
+  pub letters : length w ≤ mostLetters
   pub rises : Rises (length w) 0 es
 
 pub listed : (w es : List ℕ) → tried (summaryLines w es) ≡ Passed → Listed w es
 listed w es e =
     let u = unmet (summaryLines w es) e in
-    record { letters = ltb-false 4096 (length w) (u .1 .0); rises = ends-accepted es (length w) (u .1 .1 .0) .rises }
+    record { letters = accepted w _ e .short; rises = ends-accepted es (length w) (u .1 .1 .0) .rises }
 
 pub summable : {w es : List ℕ} → Listed w es → Summable es
 summable v = record {

@@ -5,6 +5,7 @@ use mathlib.Core.List.{List, [], _∷_, _++_, map}
 use Prim.Native.Nat.{ℕ, zero, suc, _-_, _/_, _≤_, _<_, max}
 use lib.ListN.{length, getD, replicate}
 use lib.Dec.{eqb}
+use Rattle.words.specs.Words.{mostLetters}
 use Rattle.checks.specs.Lines.{Line, _unless_then_, recordLines, endsLine}
 use Rattle.reading.specs.declared.summary.Summary.{Summary}
 
@@ -69,5 +70,5 @@ pub record Summarized (w es : List ℕ) (r : Summary) : Type 0 where
 -- what the loop asks of the ends: each part begins before it ends, and no end and no number of parts is above the most letters
 pub record Summable (es : List ℕ) : Type 0 where
   pub rising : (k : ℕ) → k < length es → getD (0 ∷ es) k 0 < getD es k 0
-  pub short : (k : ℕ) → getD es k 0 ≤ 4096
-  pub few : length es ≤ 4096
+  pub short : (k : ℕ) → getD es k 0 ≤ mostLetters
+  pub few : length es ≤ mostLetters

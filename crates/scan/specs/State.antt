@@ -5,6 +5,7 @@ use mathlib.Core.List.{List}
 use Prim.Native.Nat.{ℕ, _+_, _≤_, _<_}
 use lib.ListN.{length, getD}
 use lib.Dec.{eqb}
+use Rattle.words.specs.Words.{mostLetters}
 use Rattle.words.specs.scan.Scanned.{Scanned, Stops}
 use Rattle.scan.specs.declared.Scan.{Scan}
 
@@ -16,12 +17,12 @@ unfoldable pub stepState : Scan → ℕ → ℕ → Scan
 stepState s new met = record { border = elim (eqb new met) [ true ↦ s .border + 1 | false ↦ 0 ]; length = s .length + 1 }
 
 pub record Short (s : Scan) : Type 0 where
-  pub border : s .border < 4096
-  pub letters : s .length < 4096
+  pub border : s .border < mostLetters
+  pub letters : s .length < mostLetters
 
 -- a scan of a word that can go on
 pub record Resumes (w : List ℕ) (s : Scan) : Type 0 where
-  pub short : length w ≤ 4096
+  pub short : length w ≤ mostLetters
   pub scanned : Scanned w (s .length) (s .border)
 
 -- a letter is left that is not larger than the letter it meets

@@ -1,6 +1,6 @@
 -- Admission, the verdict, then the entries that the scan used are cleared.
 use borrow.Author.Needs.{needs}
-use borrow.Author.Tests.{eqb-false, ltb-false}
+use borrow.Author.Tests.{ltb-false}
 use mathlib.Core.Path.{_≡_, _∙_}
 use mathlib.Core.List.{List}
 use Prim.Native.Nat.{ℕ}
@@ -11,6 +11,7 @@ use Rattle.buffers.proofs.BufferLaws.{cleared-kept}
 use Rattle.checks.specs.Lines.{tried}
 use Rattle.checks.specs.declared.Checked.the-variants.{Passed}
 use Rattle.checks.proofs.LineLaws.{passed, refused, unmet}
+use Rattle.checks.proofs.RecordLaws.{accepted}
 use Rattle.extension.specs.declared.Extension.{Extension}
 use Rattle.extension.specs.Extension.{extensionLines, ExtensionFound, TestRoom, Verdict}
 use Rattle.extension.proofs.find_extension.Statement.{statement}
@@ -18,12 +19,8 @@ use Rattle.extension.proofs.find_extension.Tie as tie
 
 test-room : (w work : List ℕ) → tried (extensionLines w (length work)) ≡ Passed → TestRoom w work
 test-room w work e =
-    let u = unmet (extensionLines w (length work)) e in
-    record {
-      nonempty = omega (arith, eqb-false (length w) 0 (u .0));
-      short = ltb-false 4096 (length w) (u .1 .0);
-      entries = ltb-false (length work) (length w) (u .1 .1 .0);
-    }
+    let a = accepted w _ e in
+    record { nonempty = a .nonempty; short = a .short; entries = ltb-false (length work) (length w) (unmet (extensionLines w (length work)) e .1 .1 .0) }
 
 verdict-found : {w work work₁ work₂ : List ℕ} {r : Extension} → tried (extensionLines w (length work)) ≡ Passed → Verdict w work r work₁
     → work₂ ≡ cleared (length w) work₁ → ExtensionFound w work r work₂

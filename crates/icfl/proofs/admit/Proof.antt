@@ -20,7 +20,7 @@ returns c = refused-first _ _ (c .before .before .check-record .ensures) (c .bef
 mul-check-work : tie.Need-mul-check-work
 mul-check-work c =
     let start = c .before .before .before .before in
-    omega (arith, accepted (start .args .word .now) (passed _ (c .before .before .check-record .ensures) (c .before .match .keys1)) .short)
+    omega (arith, accepted (start .args .word .now) _ (passed _ (c .before .before .check-record .ensures) (c .before .match .keys1)) .short)
 
 check-work-requires : tie.Need-check-work-requires
 check-work-requires c κs = search needs

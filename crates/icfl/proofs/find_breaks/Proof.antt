@@ -3,6 +3,7 @@ use borrow.Author.Needs.{needs}
 use Prim.Native.Nat.{_+_, _-_, _*_, _≤_, _<_}
 use native.Mathlib.Omega.{arith}
 use lib.ListN.{length, drop, length-set, length-drop}
+use Rattle.words.specs.Words.{mostLetters}
 use Rattle.extension.proofs.VerdictLaws.{Fails}
 use Rattle.icfl.proofs.Finding.{Finding, find-starts, find-fits, find-ends, found, find-on}
 use Rattle.icfl.proofs.find_breaks.Statement.{statement}
@@ -39,7 +40,7 @@ entry-at : (c : tie.After-known-told Inv-loop μ-loop)
     → (let at-test = c .before .before .before .before .before in
     let turn = at-test .before .before .before .before in
     let word = turn .before .before .before .args .word .now in
-    (length word + 2 * turn .loop .count + 1 < length (at-test .extension-of .last .1 .0)) × (turn .loop .count < 4096) × (length word ≤ 4096))
+    (length word + 2 * turn .loop .count + 1 < length (at-test .extension-of .last .1 .0)) × (turn .loop .count < mostLetters) × (length word ≤ mostLetters))
 entry-at c =
     let at-test = c .before .before .before .before .before in
     let turn = at-test .before .before .before .before in

@@ -4,6 +4,7 @@ use mathlib.Core.Path.{_≡_}
 use Prim.Native.Nat.{_+_, _*_, _≤_}
 use native.Mathlib.Omega.{arith}
 use lib.ListN.{length, length-take, length-drop}
+use Rattle.words.specs.Words.{mostLetters}
 use Rattle.checks.specs.Lines.{tried}
 use Rattle.checks.specs.declared.Checked.the-variants.{Passed}
 use Rattle.checks.proofs.LineLaws.{passed}
@@ -24,7 +25,7 @@ room-at c = cut-room _ _ (c .before .before .before .before .before .before .arg
 
 -- the ends that are found lie among the entries that will be cleared, and these in the work buffer
 inside-at : (c : tie.After-find-ends) → (let start = c .before .before .before .before .before .before .before .before in
-    (c .find-ends .result .first + c .find-ends .result .count ≤ 12288) × (3 * length (start .args .word .now) ≤ length (c .find-ends .last .1 .0))
+    (c .find-ends .result .first + c .find-ends .result .count ≤ 3 * mostLetters) × (3 * length (start .args .word .now) ≤ length (c .find-ends .last .1 .0))
     × (c .find-ends .result .first + c .find-ends .result .count ≤ length (c .find-ends .last .1 .0)))
 inside-at c =
     let room = room-at (c .before .before) in
