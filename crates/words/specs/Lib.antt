@@ -10,7 +10,7 @@
 --     InverseLyndon               falling word                Definition 3.1       exceeds each nonempty proper suffix
 --     AntiLyndon                  strict word                 Proposition 7.3      comes before each nonempty proper suffix, in ≺
 --     isInverseLyndon, isAntiLyndon                                                tests that decide these two
---     commonLength                longest common extension                         the number of equal leading letters
+--     commonLength                                                                 longest common extension: the number of equal leading letters
 --     sign                        comparison                  Definition 2.4       −1, 0, +1 over a range and two starts
 --   Factorizations
 --     failingLength               L                           Lemma 4.8            length of the shortest failing prefix
