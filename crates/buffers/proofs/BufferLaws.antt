@@ -7,8 +7,9 @@ use native.Mathlib.Nat.{zero-add}
 use native.Mathlib.Numerals.{add-one}
 use native.Mathlib.Omega.{arith}
 use lib.ListN.{length, take, drop, getD, set, replicate, length-set}
-use lib.Seq.{paste-suc, drop-drop, length-take-le, take-suc, drop-cons, set-at, getD-drop, getD-append-add}
+use lib.Seq.{paste-suc, length-take-le, take-suc, drop-cons, set-at, getD-drop, getD-append-add}
 use Rattle.buffers.specs.Buffers.{cleared}
+use Rattle.buffers.proofs.PartLaws.{drop-to}
 
 -- a turn of the loop that copies to the front
 pub copy-more : (source buffer : List ℕ) (i : ℕ) → i < length source → length source ≤ length buffer
@@ -18,9 +19,7 @@ copy-more source buffer i l m = simp (zero-add, ← add-one) at (paste-suc buffe
 -- ---- what is kept past a place
 
 pub kept-past : (n m : ℕ) (xs ys : List ℕ) → n ≤ m → drop n xs ≡ drop n ys → drop m xs ≡ drop m ys
-kept-past n m xs ys l e =
-    let z : n + (m - n) ≡ m = omega arith in
-    (rw z at (sym (drop-drop (m - n) n xs))) ∙ ap (drop (m - n)) e ∙ (rw z at (drop-drop (m - n) n ys))
+kept-past n m xs ys l e = sym (drop-to n m xs l) ∙ ap (drop (m - n)) e ∙ drop-to n m ys l
 
 pub cleared-kept : (n : ℕ) (xs ys : List ℕ) → drop n xs ≡ drop n ys → cleared n xs ≡ cleared n ys
 cleared-kept n xs ys e = ap (λ (t : List ℕ). replicate n 0 ++ t) e

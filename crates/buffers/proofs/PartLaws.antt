@@ -1,11 +1,15 @@
--- Parts of a list as code lends them: from a place to the end (rest-is), between two places (part-is), and the whole after a part of it
--- was lent for writing (rest-back).
+-- Parts of a list: a part of a part (drop-to); and as code lends them: between two places (part-is), from a place to the end (rest-is), and the
+-- whole after a part of it was lent for writing (rest-back).
 use mathlib.Core.Path.{_≡_, ap, sym, _∙_}
 use mathlib.Core.List.{List, [], _∷_, _++_, append-nil}
-use Prim.Native.Nat.{ℕ, zero, suc, _-_}
+use Prim.Native.Nat.{ℕ, zero, suc, _+_, _-_, _≤_}
 use native.Mathlib.Omega.{arith}
 use lib.ListN.{length, take, drop, length-drop, drop-of-length-le}
-use lib.Seq.{slice, take-all, take-nil}
+use lib.Seq.{slice, take-all, take-nil, drop-drop}
+
+-- a part from j on is a part of one from i on
+pub drop-to : (i j : ℕ) (xs : List ℕ) → i ≤ j → drop (j - i) (drop i xs) ≡ drop j xs
+drop-to i j xs l = let z : i + (j - i) ≡ j = omega arith in drop-drop (j - i) i xs ∙ rw z
 
 -- `&xs[a..b]`
 abbrev pub part : ℕ → ℕ → List ℕ → List ℕ

@@ -1,6 +1,7 @@
 -- The checks, then the walk that stores the ends.
 use borrow.Author.Needs.{needs}
 use mathlib.Core.Path.{_≡_, refl}
+use mathlib.Core.List.{[]}
 use lib.ListN.{length}
 use Rattle.checks.specs.declared.Checked.the-variants.{Passed}
 use Rattle.checks.specs.Lines.{tried, recordLines}
@@ -15,7 +16,7 @@ admitted-at : (c : tie.After-enum-told) → tried (recordLines (c .before .befor
 admitted-at c = passed _ (c .before .before .check-record .ensures) (c .before .match .keys1)
 
 accepted-at : (c : tie.After-enum-told) → Accepted (c .before .before .before .before .before .args .word .now)
-accepted-at c = accepted _ (admitted-at c)
+accepted-at c = accepted _ [] (admitted-at c)
 
 -- line 4 was tried after them
 tried-at : (c : tie.After-check-room) → let a = c .before .before .before .before .before .before .before .args in

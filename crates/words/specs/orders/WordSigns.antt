@@ -1,11 +1,12 @@
 -- The sign of two words in the inverse order. Over a range the sign is that of the two parts of the word from the starts to the end (sign-parts).
 use mathlib.Core.Path.{_≡_, refl, ap, sym, _∙_}
-use mathlib.Core.List.{List, [], _∷_}
-use Prim.Native.Nat.{ℕ, zero, suc, _+_, _-_, _≤_, _<_}
+use mathlib.Core.List.{List}
+use Prim.Native.Nat.{ℕ, _≤_, _<_}
 use native.Mathlib.Omega.{arith}
-use lib.ListN.{length, take, drop, length-drop}
-use lib.Seq.{slice, take-nil, drop-drop, length-take-le}
+use lib.ListN.{length, take, length-drop}
+use lib.Seq.{length-take-le}
 use lib.IntN.{ℤ, pos, negsuc}
+use Rattle.buffers.proofs.PartLaws.{drop-to, part, part-is}
 use Rattle.words.specs.Words.{_≺_, sign}
 use Rattle.words.specs.orders.InverseLaws.{≺-≼, ≺-irrefl, ≺-not-≼}
 use Rattle.words.specs.orders.SignLaws.{remainder, SignOf, sign-is}
@@ -15,20 +16,11 @@ pub data SignOfWords (x y : List ℕ) : ℤ → Type 0 where
   same : x ≡ y → SignOfWords x y (pos 0)
   after : y ≺ x → SignOfWords x y (pos 1)
 
--- the code's part of a word from i to j
-pub slice-part : (i j : ℕ) (w : List ℕ) → slice i j w ≡ take (j - i) (drop i w)
-slice-part zero j w = let z : j - 0 ≡ j = omega arith in rw z
-slice-part (suc i) zero w = let z : 0 - suc i ≡ 0 = omega arith in rw z
-slice-part (suc i) (suc j) [] = sym (take-nil (suc j - suc i))
-slice-part (suc i) (suc j) (a ∷ w) = let z : suc j - suc i ≡ j - i = omega arith in slice-part i j w ∙ rw z
-
-part-remainder : (w : List ℕ) (first end start : ℕ) → first ≤ start → take (end - start) (drop start w) ≡ remainder w first end start
-part-remainder w first end start l =
-    let z : first + (start - first) ≡ start = omega arith in
-    rw (drop-drop (start - first) first (take end w), z) (sym (slice-part start end w))
+part-remainder : (w : List ℕ) (first end start : ℕ) → first ≤ start → part start end w ≡ remainder w first end start
+part-remainder w first end start l = part-is start end w ∙ sym (drop-to first start (take end w) l)
 
 pub sign-parts : (w : List ℕ) (first end start other : ℕ) {s : ℤ} → end ≤ length w → first ≤ start → start < end → first ≤ other → other < end
-    → SignOfWords (take (end - start) (drop start w)) (take (end - other) (drop other w)) s → s ≡ sign w first end start other
+    → SignOfWords (part start end w) (part other end w) s → s ≡ sign w first end start other
 sign-parts w first end start other h a b c d x =
     go (rw (part-remainder w first end start a, part-remainder w first end other c) at x) (sign-is w first end start other)
   where

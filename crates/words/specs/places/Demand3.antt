@@ -7,7 +7,8 @@ use Prim.Native.Nat.{ℕ, _+_, _-_, _≤_, _<_}
 use native.Mathlib.Omega.{arith}
 use native.Mathlib.Decide.{decLt}
 use lib.ListN.{length, take, drop}
-use lib.Seq.{slice, drop-drop}
+use lib.Seq.{slice}
+use Rattle.buffers.proofs.PartLaws.{drop-to}
 use Rattle.words.specs.Words.{_≪_, _⊑_, InverseLyndon}
 use Rattle.words.specs.Factorizations.{icfl, cflIn, icflEnds, cflInEnds}
 use Rattle.words.specs.Statements.{DominatedBy, Part, Demand3}
@@ -59,7 +60,7 @@ module _ (w : List ℕ) where
 
   -- a place of the factor from a to b whose suffix comes first: what is left of the factor from there on begins the factor
   first-begins : (a b e : ℕ) → InverseLyndon (slice a b w) → a ≤ e → e ≤ b → b ≤ length w → FirstSuffix e w → slice e b w ⊑ slice a b w
-  first-begins a b e k l m h f = rw (drop-drop (e - a) a (take b w), let z : a + (e - a) ≡ e = omega arith in z) at (go (suffix-below k (e - a)))
+  first-begins a b e k l m h f = rw (drop-to a e (take b w) (omega arith)) at (go (suffix-below k (e - a)))
     where
       go : drop (e - a) (slice a b w) ≤ₗ slice a b w → drop (e - a) (slice a b w) ⊑ slice a b w
       go (pre x) = x

@@ -9,7 +9,8 @@ use native.Mathlib.Omega.{arith}
 use native.Mathlib.Nat.{le-refl}
 use native.Mathlib.Decide.{decLt}
 use lib.ListN.{length, take, drop, getD, length-append, length-drop, drop-of-length-le, take-append-drop}
-use lib.Seq.{drop-append-le, drop-drop, drop-length, length-take-le}
+use lib.Seq.{drop-append-le, drop-length, length-take-le}
+use Rattle.buffers.proofs.PartLaws.{drop-to}
 use Rattle.words.specs.Words.{_≪_, here, _⊑_, done, InverseLyndon, AntiLyndon}
 use Rattle.words.specs.orders.PrefixLaws.{⊑-refl, ⊑-append, ⊑-both, ⊑-drop, ⊑-next, ⊑-split, ⊑-trans, ⊑-under, take-⊑}
 use Rattle.words.specs.orders.MismatchLaws.{≪-append, ≪-extend, ≪-not-⊑, ≪-trans, ≪-under}
@@ -31,7 +32,7 @@ pub border-letter : {g : List ℕ} → InverseLyndon g → (p i : ℕ) → 0 < p
 border-letter {g} k p i s a l z h =
     let b : ℕ = getD g (length (drop p g)) 0 in
     let y : (drop p g ++ b ∷ []) ⊑ g = ⊑-next z (rw length-drop (omega arith)) in
-    let e : drop (i - p) (drop p g) ≡ drop i g = drop-drop (i - p) p g ∙ ap (λ (n : ℕ). drop n g) (let e : p + (i - p) ≡ i = omega arith in e) in
+    let e : drop (i - p) (drop p g) ≡ drop i g = drop-to p i g (omega arith) in
     let d : (drop (i - p) (drop p g) ++ b ∷ []) ⊑ drop (i - p) g
     = rw (drop-append-le (i - p) (drop p g) (b ∷ []) (rw length-drop (omega arith))) at (⊑-drop (i - p) y) in
     let t : (drop i g ++ b ∷ []) ⊑ drop (i - p) g = subst (λ (x : List ℕ). (x ++ b ∷ []) ⊑ drop (i - p) g) e d in

@@ -8,6 +8,7 @@ use native.Mathlib.Omega.{arith}
 use native.Mathlib.Decide.{decLt}
 use lib.ListN.{length, take, drop, getD, length-drop}
 use lib.Seq.{drop-drop, length-take-le}
+use Rattle.buffers.proofs.PartLaws.{drop-to}
 use Rattle.words.specs.Words.{_≺_}
 use Rattle.words.specs.Factorizations.{longestAntiLyndon, cflIn, lyndonTable}
 use Rattle.words.specs.orders.PrefixLaws.{take-⊑, ⊑-drop}
@@ -65,7 +66,7 @@ lyndon-table-next w i l = rw (lyndon-table-at w i l) (go (longest-next (drop i w
       after = omega (arith, x .after);
       inside = omega (arith, x .inside, length-drop i w);
       stops = stops (x .stops);
-      between = λ k a b h. x .between (k - i) (omega arith) (omega arith) (rw (drop-drop (k - i) i w, let z : i + (k - i) ≡ k = omega arith in z) h);
+      between = λ k a b h. x .between (k - i) (omega arith) (omega arith) (rw (drop-to i k w (omega arith)) h);
     }
       where
         stops : (n ≡ length (drop i w)) ⊎ (drop n (drop i w) ≺ drop i w) → (i + n ≡ length w) ⊎ (drop (i + n) w ≺ drop i w)

@@ -6,7 +6,8 @@ use mathlib.Core.List.{List, [], _++_, flatten, append-nil}
 use Prim.Native.Nat.{ℕ, _+_, _-_, _≤_, _<_}
 use native.Mathlib.Omega.{arith}
 use lib.ListN.{length, take, drop, getD, length-drop, take-append-drop}
-use lib.Seq.{take-length, take-add, length-take-le, drop-drop, drop-cons}
+use lib.Seq.{take-length, take-add, length-take-le, drop-cons}
+use Rattle.buffers.proofs.PartLaws.{drop-to}
 use Rattle.words.specs.Words.{_≺_, AntiLyndon}
 use Rattle.words.specs.Factorizations.{longestAntiLyndon, cflIn}
 use Rattle.words.specs.Statements.{EqualOrAfter, Next, end, by, none, more}
@@ -44,7 +45,7 @@ merged-letter w i l =
 
 module _ (w : List ℕ) (i j : ℕ) (x : Merged w i j) where
   follows : drop (j - i) (drop i w) ≡ drop j w
-  follows = let e : i + (j - i) ≡ j = omega (arith, x .after) in drop-drop (j - i) i w ∙ rw e
+  follows = drop-to i j w (omega (arith, x .after))
 
   suffix : take (j - i) (drop i w) ++ drop j w ≡ drop i w
   suffix = rw (← follows) (take-append-drop (j - i) (drop i w))
