@@ -1,4 +1,3 @@
 pub mod BeforeLaws
 pub mod MergeLaws
 pub mod FillLaws
-pub mod TableLaws

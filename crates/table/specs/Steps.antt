@@ -3,12 +3,13 @@ use mathlib.Core.Path.{_≡_}
 use mathlib.Core.List.{List}
 use Prim.Native.Nat.{ℕ, _+_, _≤_, _<_}
 use lib.ListN.{length, getD}
+use Rattle.words.specs.Words.{mostLetters}
 use Rattle.words.specs.Factorizations.{lyndonTable}
 use Rattle.words.specs.table.Merging.{Merged}
 
 -- the entries fit into 16 bits, and the buffer has room for them
-pub record Fits (w out : List ℕ) : Type 0 where
-  pub short : length w ≤ 4096
+pub record TableRoom (w out : List ℕ) : Type 0 where
+  pub short : length w ≤ mostLetters
   pub room : length w ≤ length out
 
 -- the entries after i are those of the table
@@ -27,8 +28,7 @@ pub record MergedTo (w out : List ℕ) (i j : ℕ) : Type 0 where
   pub after : TabledAfter w out i
   pub merged : Merged w i j
 
--- a word from i to j, and n letters after it
-pub record Neighbours (w : List ℕ) (i j n : ℕ) : Type 0 where
-  pub left : i < j
-  pub right : 0 < n
-  pub inside : j + n ≤ length w
+-- neither word is empty
+pub record BothBegin (u v : List ℕ) : Type 0 where
+  pub left : 0 < length u
+  pub right : 0 < length v

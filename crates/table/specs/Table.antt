@@ -1,15 +1,15 @@
 -- DEFINITIONS. What the call of the Lyndon table answers and writes.
-use mathlib.Core.List.{List, [], _∷_}
+use mathlib.Core.List.{List, [], _∷_, _++_}
 use Prim.Native.Nat.{ℕ}
 use lib.ListN.{length}
 use Rattle.words.specs.Factorizations.{lyndonTable}
-use Rattle.checks.specs.Refusals.{recordRefusal, resultRefusal}
+use Rattle.checks.specs.Lines.{Line, recordLines, resultLine}
 use Rattle.checks.specs.Answers.{Filled}
 use Rattle.checks.specs.declared.Counted.{Counted}
 
 -- the lines of the table of refusals that the call tries: 1, 2 and 4
-abbrev pub tableLines : List ℕ → ℕ → List ℕ
-tableLines w entries = recordRefusal w ∷ resultRefusal entries (length w) ∷ []
+abbrev pub tableLines : List ℕ → ℕ → List Line
+tableLines w entries = recordLines w ++ resultLine entries (length w) ∷ []
 
 -- the call's promise: its answer, and the result buffer whole
 abbrev pub Tabled : List ℕ → List ℕ → Counted → List ℕ → Type 0

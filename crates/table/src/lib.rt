@@ -4,20 +4,25 @@ use checks::Counted;
 
 mod merging;
 
-ghost use Rattle.table.specs.Table.{Tabled};
+ghost use mathlib.Core.Path.{_≡_};
+ghost use Rattle.checks.specs.Lines.{tried};
+ghost use Rattle.table.specs.Table.{tableLines, Tabled};
+
+// The record, then the result buffer's entries.
+fn admit(word: &[u8], entries: usize) -> Checked
+    ensures { λ r. ⌜ r ≡ tried (tableLines (now (word .entry)) entries) ⌝ }
+{
+    checks::check_record(word).then(checks::check_result(entries, word.len()))
+}
 
 /// The start table: writes the Lyndon table into the first entries of `lengths`, as many as the word has letters, and answers their number.
 /// Refusals 1, 2, 4.
 pub fn lyndon_table(word: &[u8], lengths: &mut [u16]) -> Counted
     ensures { λ r. ⌜ Tabled (now (word .entry)) (now (lengths .entry)) r (now (lengths .exit)) ⌝ }
 {
-    let checked = checks::check_record(word);
-    let Checked::Passed = checked else {
-        return Counted::Refused(checked.number());
-    };
-    let room = checks::check_result(lengths.len(), word.len());
-    let Checked::Passed = room else {
-        return Counted::Refused(room.number());
+    let admitted = admit(word, lengths.len());
+    let Checked::Passed = admitted else {
+        return Counted::Refused(admitted.number());
     };
     merging::fill_table(word, lengths);
     Counted::Count(word.len())

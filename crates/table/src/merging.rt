@@ -2,17 +2,24 @@
 //! longest words that follow, as long as each comes after what stands before it.
 ghost use mathlib.Core.Path.{_≡_};
 ghost use mathlib.Core.List.{[], _∷_};
-ghost use Prim.Native.Nat.{_-_};
-ghost use lib.ListN.{getD, take, drop};
-ghost use Rattle.words.specs.Words.{isInverseBefore};
+ghost use lib.ListN.{getD};
+ghost use Rattle.words.specs.Words.{_≺_};
 ghost use Rattle.words.specs.Factorizations.{lyndonTable};
-ghost use Rattle.checks.specs.Answers.{writtenAs};
-ghost use Rattle.table.specs.Steps.{Fits, NextKnown, MergedTo, Neighbours};
+ghost use Rattle.words.specs.orders.Decisions.{Decides};
+ghost use Rattle.buffers.specs.Buffers.{written};
+ghost use Rattle.table.specs.Steps.{TableRoom, NextKnown, MergedTo, BothBegin};
 
-/// Whether u comes before v in the inverse order. The test repeats that of the loop in `common_length`, so that the compiler can join them.
+// Whether u comes before v in the inverse order. Their first letters decide most often. The test after the common length repeats that
+// of the loop in `common_length`, so that the compiler can join them.
 fn comes_before(u: &[u8], v: &[u8]) -> bool
-    ensures { λ r. ⌜ r ≡ isInverseBefore (now (u .entry)) (now (v .entry)) ⌝ }
+    requires { ⌜ BothBegin (now u) (now v) ⌝ }
+    ensures { λ r. ⌜ Decides (now (u .entry) ≺ now (v .entry)) r ⌝ }
 {
+    let a = u[0];
+    let b = v[0];
+    if b != a {
+        return b < a;
+    }
     let l = compare::common_length(u, v);
     if l < compare::shorter(u.len(), v.len()) {
         return v[l] < u[l];
@@ -20,9 +27,9 @@ fn comes_before(u: &[u8], v: &[u8]) -> bool
     u.len() < v.len()
 }
 
-/// Whether a letter, as a word, comes before v in the inverse order.
+// Whether a letter, as a word, comes before v in the inverse order.
 fn letter_comes_before(a: u8, v: &[u8]) -> bool
-    ensures { λ r. ⌜ r ≡ isInverseBefore (a ∷ []) (now (v .entry)) ⌝ }
+    ensures { λ r. ⌜ Decides ((a ∷ []) ≺ now (v .entry)) r ⌝ }
 {
     if v.len() == 0 {
         return false;
@@ -34,20 +41,7 @@ fn letter_comes_before(a: u8, v: &[u8]) -> bool
     b < a
 }
 
-/// Whether the word from i to j comes before the n letters after it, in the inverse order. Their first letters decide most often.
-fn joins(word: &[u8], i: usize, j: usize, n: usize) -> bool
-    requires { ⌜ Neighbours (now word) i j n ⌝ }
-    ensures { λ r. ⌜ r ≡ isInverseBefore (take (j - i) (drop i (now (word .entry)))) (take n (drop j (now (word .entry)))) ⌝ }
-{
-    let a = word[i];
-    let b = word[j];
-    if b != a {
-        return b < a;
-    }
-    comes_before(&word[i..j], &word[j..j + n])
-}
-
-/// Entry i of the table: the word from i to `from` is anti-Lyndon, and the words that follow join it as long as they come after it.
+// Entry i of the table: the word from i to `from` is anti-Lyndon, and the words that follow join it as long as they come after it.
 fn longest_from(word: &[u8], lengths: &[u16], i: usize, from: usize) -> usize
     requires { ⌜ MergedTo (now word) (now lengths) i from ⌝ }
     ensures { λ r. ⌜ r ≡ getD (lyndonTable (now (word .entry))) i 0 ⌝ }
@@ -55,7 +49,7 @@ fn longest_from(word: &[u8], lengths: &[u16], i: usize, from: usize) -> usize
     let mut j = from;
     while j < word.len() {
         let n = lengths[j] as usize;
-        if !joins(word, i, j, n) {
+        if !comes_before(&word[i..j], &word[j..j + n]) {
             return j - i;
         }
         j += n;
@@ -63,7 +57,7 @@ fn longest_from(word: &[u8], lengths: &[u16], i: usize, from: usize) -> usize
     j - i
 }
 
-/// Entry i of the table, from the entries after it; `next` is the first of them, 0 if there is none.
+// Entry i of the table, from the entries after it; `next` is the first of them, 0 if there is none.
 fn longest_at(word: &[u8], lengths: &[u16], i: usize, next: usize) -> usize
     requires { ⌜ NextKnown (now word) (now lengths) i next ⌝ }
     ensures { λ r. ⌜ r ≡ getD (lyndonTable (now (word .entry))) i 0 ⌝ }
@@ -77,8 +71,8 @@ fn longest_at(word: &[u8], lengths: &[u16], i: usize, next: usize) -> usize
 
 /// Writes the table from its last entry on. The entry just written is handed on, the others are read again.
 pub fn fill_table(word: &[u8], lengths: &mut [u16])
-    requires { ⌜ Fits (now word) (now lengths) ⌝ }
-    ensures { λ r. ⌜ now (lengths .exit) ≡ writtenAs 0 (lyndonTable (now (word .entry))) (now (lengths .entry)) ⌝ }
+    requires { ⌜ TableRoom (now word) (now lengths) ⌝ }
+    ensures { λ r. ⌜ now (lengths .exit) ≡ written (lyndonTable (now (word .entry))) (now (lengths .entry)) ⌝ }
 {
     let mut i = word.len();
     let mut n: usize = 0;

@@ -49,16 +49,5 @@ returns c = fill-ends (c .before .before .before .before .pre) (c .before .loop 
 pub fill-table-spec : {M : Type 1} → statement M
 fill-table-spec =
     tie.close
-    (tie.spec
-    Inv-loop
-    μ-loop
-    loop-holds
-    sub-i
-    longest-at-requires
-    cast-lengths
-    mul-lengths
-    slice-write-lengths
-    loop-less
-    loop-again
-    same-length
-    returns)
+    (tie.spec Inv-loop μ-loop loop-holds sub-i longest-at-requires cast-lengths mul-lengths slice-write-lengths loop-less loop-again
+    same-length returns)

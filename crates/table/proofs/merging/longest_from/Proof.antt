@@ -1,13 +1,11 @@
 -- The word from i to j is anti-Lyndon; the longest word at j joins it if it comes after it, and else nothing longer begins at i.
 use borrow.Author.Needs.{needs}
-use mathlib.Core.Path.{_≡_}
-use Prim.Native.Nat.{_+_, _-_, _≤_, _<_}
+use Prim.Native.Nat.{_-_}
 use native.Mathlib.Omega.{arith}
 use lib.ListN.{length, getD}
 use borrow.Author.Tests.{not-true, not-false}
-use Rattle.words.specs.Factorizations.{lyndonTable}
 use Rattle.words.specs.table.Merging.{Merged}
-use Rattle.table.proofs.MergeLaws.{turn-fits, turn-joins, turn-stops, turns-end}
+use Rattle.table.proofs.MergeLaws.{Merging, turn-begins, turn-fits, turn-joins, turn-stops, turns-end}
 use Rattle.table.proofs.merging.longest_from.Statement.{statement}
 use Rattle.table.proofs.merging.longest_from.Tie as tie
 
@@ -17,14 +15,12 @@ Inv-loop word lengths i from j₀ j = Merged word i j
 abbrev μ-loop : tie.MeasureT-loop
 μ-loop word lengths i from j₀ j = length word - j
 
--- the entry that a turn reads
-entry : (c : tie.In-loop Inv-loop μ-loop) → let a = c .before .before .before .before .args in let j = c .before .loop .j in
-    getD (a .lengths .now) j 0 ≡ getD (lyndonTable (a .word .now)) j 0
-entry c = c .before .before .before .before .pre .after .entries _ (c .before .loop .inv .after) (c .loop-test .taken)
-
-fits : (c : tie.In-loop Inv-loop μ-loop) → let a = c .before .before .before .before .args in let j = c .before .loop .j in
-    (0 < getD (a .lengths .now) j 0) × (j + getD (a .lengths .now) j 0 ≤ length (a .word .now))
-fits c = turn-fits (c .before .loop .inv) (c .loop-test .taken) (entry c)
+-- with the entry that a turn reads
+merging-at : (c : tie.In-loop Inv-loop μ-loop) → let a = c .before .before .before .before .args in let j = c .before .loop .j in
+    Merging (a .word .now) (a .i) j (getD (a .lengths .now) j 0)
+merging-at c =
+    let inv = c .before .loop .inv in
+    record { merged = inv; entry = c .before .before .before .before .pre .after .entries _ (inv .after) (c .loop-test .taken) }
 
 loop-holds : tie.Need-loop-holds Inv-loop μ-loop
 loop-holds c = c .before .before .pre .merged
@@ -38,29 +34,49 @@ shared-slice-read-n c = search needs
 cast-n : tie.Need-cast-n Inv-loop μ-loop
 cast-n c = omega (arith, c .shared-slice-known3 .given (c .before .before .loop .j))
 
-joins-requires : tie.Need-joins-requires Inv-loop μ-loop
-joins-requires c κs =
-    let f = fits (c .before) in
-    record { left = c .before .before .loop .inv .after; right = f .0; inside = f .1 }
+sub-comes-before : tie.Need-sub-comes-before Inv-loop μ-loop
+sub-comes-before c = search needs
+
+part-comes-before-start : tie.Need-part-comes-before-start Inv-loop μ-loop
+part-comes-before-start c = search needs
+
+part-comes-before-end : tie.Need-part-comes-before-end Inv-loop μ-loop
+part-comes-before-end c = search needs
+
+add-comes-before : tie.Need-add-comes-before Inv-loop μ-loop
+add-comes-before c = omega (arith, turn-fits (merging-at (c .before .before)))
+
+sub-comes-before-2 : tie.Need-sub-comes-before-2 Inv-loop μ-loop
+sub-comes-before-2 c = search needs
+
+part-comes-before-start-2 : tie.Need-part-comes-before-start-2 Inv-loop μ-loop
+part-comes-before-start-2 c = search needs
+
+part-comes-before-end-2 : tie.Need-part-comes-before-end-2 Inv-loop μ-loop
+part-comes-before-end-2 c = omega (arith, turn-fits (merging-at (c .before .before)))
+
+comes-before-requires : tie.Need-comes-before-requires Inv-loop μ-loop
+comes-before-requires c κs =
+    let turn = c .before .before .before in
+    let at-turn = merging-at turn in
+    record { left = search needs; right = omega (arith, turn-begins at-turn (turn .loop-test .taken), turn-fits at-turn) }
 
 sub-result : tie.Need-sub-result Inv-loop μ-loop
 sub-result c = search needs
 
 returns : tie.Need-returns Inv-loop μ-loop
-returns c =
-    let turn = c .before .before .before in
-    turn-stops (turn .before .loop .inv) (turn .loop-test .taken) (entry turn) (c .before .joins .ensures) (not-true _ (c .if1 .taken))
+returns c = turn-stops (merging-at (c .before .before .before .before .before)) (c .before .comes-before .ensures) (not-true _ (c .if1 .taken))
 
 add-j : tie.Need-add-j Inv-loop μ-loop
-add-j c = omega (arith, fits (c .before .before .before) .1)
+add-j c = omega (arith, turn-fits (merging-at (c .before .before .before .before .before)))
 
 loop-less : tie.Need-loop-less Inv-loop μ-loop
-loop-less c = omega (arith, fits (c .before .before .before) .0)
+loop-less c =
+    let turn = c .before .before .before .before .before in
+    omega (arith, turn-begins (merging-at turn) (turn .loop-test .taken))
 
 loop-again : tie.Need-loop-again Inv-loop μ-loop
-loop-again c =
-    let turn = c .before .before .before in
-    turn-joins (turn .before .loop .inv) (turn .loop-test .taken) (entry turn) (c .before .joins .ensures) (not-false _ (c .if1 .left))
+loop-again c = turn-joins (merging-at (c .before .before .before .before .before)) (c .before .comes-before .ensures) (not-false _ (c .if1 .left))
 
 sub-result-2 : tie.Need-sub-result-2 Inv-loop μ-loop
 sub-result-2 c = search needs
@@ -71,18 +87,6 @@ returns-2 c = turns-end (c .before .loop .inv) (c .loop-test .left)
 pub longest-from-spec : {M : Type 1} → statement M
 longest-from-spec =
     tie.close
-    (tie.spec
-    Inv-loop
-    μ-loop
-    loop-holds
-    mul-n
-    shared-slice-read-n
-    cast-n
-    joins-requires
-    sub-result
-    returns
-    add-j
-    loop-less
-    loop-again
-    sub-result-2
-    returns-2)
+    (tie.spec Inv-loop μ-loop loop-holds mul-n shared-slice-read-n cast-n sub-comes-before part-comes-before-start part-comes-before-end
+    add-comes-before sub-comes-before-2 part-comes-before-start-2 part-comes-before-end-2 comes-before-requires sub-result returns add-j
+    loop-less loop-again sub-result-2 returns-2)
