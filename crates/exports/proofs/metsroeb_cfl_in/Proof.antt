@@ -1,6 +1,5 @@
 use borrow.Author.Needs.{needs}
 use Rattle.exports.proofs.NumberLaws.{cfl-in-small, filled-numbers}
-use borrow.Author.Needs.{needs}
 use Rattle.exports.proofs.metsroeb_cfl_in.Statement.{statement}
 use Rattle.exports.proofs.metsroeb_cfl_in.Tie as tie
 

@@ -1,7 +1,5 @@
 use borrow.Author.Needs.{needs}
-use mathlib.Core.Path.{sym, _∙_}
 use Rattle.exports.proofs.NumberLaws.{sign-numbers, sign-refused}
-use borrow.Author.Needs.{needs}
 use Rattle.exports.proofs.metsroeb_compare.Statement.{statement}
 use Rattle.exports.proofs.metsroeb_compare.Tie as tie
 
@@ -15,10 +13,10 @@ enum-known-answer-2 : tie.Need-enum-known-answer-2
 enum-known-answer-2 c = search needs
 
 returns : tie.Need-returns
-returns c = sign-numbers _ _ _ _ _ _ (sym (c .before .answer .given .1) ∙ c .before .before .before .compare-suffixes .ensures)
+returns c = sign-numbers _ _ _ _ _ _ (rw (c .before .answer .given .1) at (c .before .before .before .compare-suffixes .ensures))
 
 returns-2 : tie.Need-returns-2
-returns-2 c = sign-refused _ _ _ _ _ _ (sym (c .before .answer2 .given .1) ∙ c .before .before .before .compare-suffixes .ensures)
+returns-2 c = sign-refused _ _ _ _ _ _ (rw (c .before .answer2 .given .1) at (c .before .before .before .compare-suffixes .ensures))
 
 pub metsroeb-compare-spec : {M : Type 1} → statement M
 metsroeb-compare-spec =

@@ -1,37 +1,60 @@
 use borrow.Author.Needs.{needs}
-use mathlib.Core.Path.{sym, _∙_}
+use mathlib.Core.Path.{_≡_, _∙_, ap}
 use native.Mathlib.Omega.{arith}
-use Rattle.reading.proofs.FactorLaws.{factor-accepted}
-use Rattle.exports.proofs.NumberLaws.{factor-refused, factor-found}
-use borrow.Author.Needs.{needs}
+use Rattle.checks.specs.Lines.{tried}
+use Rattle.checks.specs.Answers.{numberOf}
+use Rattle.checks.specs.declared.Checked.the-variants.{Passed}
+use Rattle.checks.proofs.LineLaws.{passed, refused}
+use Rattle.reading.specs.Factor.{factorLines}
+use Rattle.reading.proofs.FactorLaws.{Placed, placed}
 use Rattle.exports.proofs.metsroeb_factor.Statement.{statement}
 use Rattle.exports.proofs.metsroeb_factor.Tie as tie
 
-factor-refusal-requires : tie.Need-factor-refusal-requires
-factor-refusal-requires c κs = search needs
+admitted-at : (c : tie.After-enum-told) → (let start = c .before .before .before .before .before in
+    tried (factorLines (start .args .word .now) (start .args .ends .now) (start .args .number)) ≡ Passed)
+admitted-at c = passed _ (c .before .before .admit-factor .ensures) (c .before .match .keys1)
+
+placed-at : (c : tie.After-enum-told) → (let start = c .before .before .before .before .before in
+    Placed (start .args .word .now) (start .args .ends .now) (start .args .number))
+placed-at c = placed _ _ _ (admitted-at c)
+
+admit-factor-requires : tie.Need-admit-factor-requires
+admit-factor-requires c κs = search needs
+
+enum-told : tie.Need-enum-told
+enum-told c = search needs
+
+enum-told-2 : tie.Need-enum-told-2
+enum-told-2 c = search needs
+
+number-requires : tie.Need-number-requires
+number-requires c κs = search needs
 
 returns : tie.Need-returns
-returns c = factor-refused _ _ _ _ (c .before .factor-refusal .ensures) (c .if1 .taken)
+returns c =
+    let admit = c .before .before .before .admit-factor .ensures in
+    let keys = c .before .before .match .keys2 in
+    record {
+      refusal = c .number .ensures ∙ ap numberOf admit;
+      first-is = refused _ _ (λ number. 0) admit keys (c .number .ensures);
+      end-is = refused _ _ (λ number. 0) admit keys (c .number .ensures);
+    }
 
 factor-from-requires : tie.Need-factor-from-requires
-factor-from-requires c κs = factor-accepted _ _ _ (sym (c .before .factor-refusal .ensures) ∙ c .if1 .left) .listed
+factor-from-requires c κs = placed-at c .listed
 
 mul-end : tie.Need-mul-end
-mul-end c = let l = factor-accepted _ _ _ (sym (c .before .before .factor-refusal .ensures) ∙ c .before .if1 .left) .listed in omega (arith, l)
+mul-end c = omega (arith, placed-at (c .before) .listed)
 
 shared-slice-read-end : tie.Need-shared-slice-read-end
-shared-slice-read-end c = factor-accepted _ _ _ (sym (c .before .before .before .factor-refusal .ensures) ∙ c .before .before .if1 .left) .listed
+shared-slice-read-end c = placed-at (c .before .before) .listed
 
 returns-2 : tie.Need-returns-2
-returns-2 c = factor-found _ _ _ _ (sym (c .before .before .before .factor-refusal .ensures) ∙ c .before .before .if1 .left) (c .before .factor-from .ensures)
+returns-2 c =
+    let none = admitted-at (c .before .before) in
+    record { refusal = rw none; first-is = rw none (c .before .factor-from .ensures); end-is = rw none }
 
 pub metsroeb-factor-spec : {M : Type 1} → statement M
 metsroeb-factor-spec =
     tie.close
-    (tie.spec
-    factor-refusal-requires
-    returns
-    factor-from-requires
-    mul-end
-    shared-slice-read-end
-    returns-2)
+    (tie.spec admit-factor-requires enum-told enum-told-2 number-requires returns factor-from-requires mul-end shared-slice-read-end returns-2)

@@ -1,6 +1,5 @@
 use borrow.Author.Needs.{needs}
 use Rattle.exports.proofs.NumberLaws.{icfl-small, filled-numbers}
-use borrow.Author.Needs.{needs}
 use Rattle.exports.proofs.metsroeb_icfl.Statement.{statement}
 use Rattle.exports.proofs.metsroeb_icfl.Tie as tie
 

@@ -1,6 +1,5 @@
 use borrow.Author.Needs.{needs}
 use Rattle.exports.proofs.NumberLaws.{table-small, filled-numbers}
-use borrow.Author.Needs.{needs}
 use Rattle.exports.proofs.metsroeb_lyndon_table.Statement.{statement}
 use Rattle.exports.proofs.metsroeb_lyndon_table.Tie as tie
 

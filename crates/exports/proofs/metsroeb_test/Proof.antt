@@ -1,9 +1,12 @@
 use borrow.Author.Needs.{needs}
 use native.Mathlib.Omega.{arith}
-use Rattle.exports.proofs.NumberLaws.{test-numbers, test-holds, test-small}
-use borrow.Author.Needs.{needs}
+use Rattle.exports.proofs.NumberLaws.{Bounded, test-numbers, test-holds, test-small}
 use Rattle.exports.proofs.metsroeb_test.Statement.{statement}
 use Rattle.exports.proofs.metsroeb_test.Tie as tie
+
+-- L, |p| and |r| fit
+bounded-at : (c : tie.After-known-told) → (let found = c .before .found .given .0 in Bounded (found .0) (found .1 .0) (found .1 .1 .0))
+bounded-at c = test-small _ _ _ _ _ _ (rw (c .before .found .given .1) at (c .before .before .before .before .before .find-extension .ensures))
 
 find-extension-requires : tie.Need-find-extension-requires
 find-extension-requires c κs = search needs
@@ -15,15 +18,13 @@ enum-known-found : tie.Need-enum-known-found
 enum-known-found c = search needs
 
 cast-failing : tie.Need-cast-failing
-cast-failing c =
-    let at-find-extension = c .before .before .before .before .before in
-    let b = test-small _ _ _ _ _ _ (rw (c .before .found .given .1) at (at-find-extension .find-extension .ensures)) in omega (arith, b .failing)
+cast-failing c = omega (arith, bounded-at c .failing)
 
 cast-prefix : tie.Need-cast-prefix
-cast-prefix c = let b = test-small _ _ _ _ _ _ (rw (c .before .found .given .1) at (c .before .before .before .before .before .find-extension .ensures)) in omega (arith, b .prefix)
+cast-prefix c = omega (arith, bounded-at c .prefix)
 
 cast-border : tie.Need-cast-border
-cast-border c = let b = test-small _ _ _ _ _ _ (rw (c .before .found .given .1) at (c .before .before .before .before .before .find-extension .ensures)) in omega (arith, b .border)
+cast-border c = omega (arith, bounded-at c .border)
 
 enum-known-found-2 : tie.Need-enum-known-found-2
 enum-known-found-2 c = search needs
@@ -49,17 +50,5 @@ returns-3 c = test-numbers _ _ _ _ (rw (c .before .found2 .given .1) at (c .befo
 pub metsroeb-test-spec : {M : Type 1} → statement M
 metsroeb-test-spec =
     tie.close
-    (tie.spec
-    find-extension-requires
-    enum-told
-    enum-known-found
-    cast-failing
-    cast-prefix
-    cast-border
-    enum-known-found-2
-    same-length
-    returns
-    same-length-2
-    returns-2
-    same-length-3
-    returns-3)
+    (tie.spec find-extension-requires enum-told enum-known-found cast-failing cast-prefix cast-border enum-known-found-2 same-length returns
+    same-length-2 returns-2 same-length-3 returns-3)

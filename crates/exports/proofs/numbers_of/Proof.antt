@@ -2,7 +2,6 @@ use borrow.Author.Needs.{needs}
 use mathlib.Core.Path.{sym, ap}
 use native.Mathlib.Omega.{arith}
 use Rattle.exports.specs.Exports.{replyOf}
-use borrow.Author.Needs.{needs}
 use Rattle.exports.proofs.numbers_of.Statement.{statement}
 use Rattle.exports.proofs.numbers_of.Tie as tie
 
