@@ -11,45 +11,41 @@ use Rattle.words.specs.orders.Decisions.{true-decides, false-decides}
 use Rattle.words.specs.lyndon.WordTests.{inverse-lyndon-test}
 use Rattle.words.specs.icfl.Failing.{Failing, failing-unique, failing-not}
 use Rattle.words.specs.icfl.BorderLength.{prefix-length}
-use Rattle.words.specs.scan.Scanned.{Scanned, scanned-one, scanned-whole, scanned-failing}
+use Rattle.words.specs.scan.Scanned.{Scanned, Stops, scanned-one, scanned-whole, scanned-failing}
 use Rattle.words.specs.scan.ScannedBorders.{Table, table-set, scanned-border, Walk, walk-on, walk-stops, walk-ends, ShortestBorder, shortest-border-length}
 use Rattle.scan.specs.declared.Scan.{Scan}
-use Rattle.scan.specs.State.{startState, Resumes, GoesOn, Advanced}
-use Rattle.scan.proofs.StateLaws.{rests}
+use Rattle.scan.specs.State.{startState, stepState}
+use Rattle.scan.proofs.StateLaws.{stepped}
 use Rattle.extension.specs.declared.Extension.{Extension}
 use Rattle.extension.specs.Extension.{extensionOf, TestRoom, Scanning, Ready}
 
 -- ---- the scan
 
 pub record Going (w work₀ work : List ℕ) (s : Scan) : Type 0 where
-  pub resumes : Resumes w s
+  pub scanned : Scanned w (s .length) (s .border)
   pub table : Table w work (s .length - 1)
   pub kept : drop (length w) work ≡ drop (length w) work₀
   pub long : length work ≡ length work₀
 
 pub scan-starts : (w work : List ℕ) (s : Scan) → TestRoom w work → s ≡ startState → Going w work work s
-scan-starts w work s f e = rw e (record {
-  resumes = record { short = f .short; scanned = scanned-one w (f .nonempty) };
-  table = λ k l. absurd (omega arith);
-  kept = refl;
-  long = refl;
-})
+scan-starts w work s f e = rw e (record { scanned = scanned-one w (f .nonempty); table = λ k l. absurd (omega arith); kept = refl; long = refl })
 
-pub scan-goes-on : {w work₀ work : List ℕ} {s t : Scan} → Going w work₀ work s → TestRoom w work₀ → GoesOn w s → Advanced w s t
+pub scan-goes-on : {w work₀ work : List ℕ} {s : Scan} (t : Scan) → Going w work₀ work s → TestRoom w work₀ → s .length < length w
+    → getD w (s .length) 0 ≤ getD w (s .border) 0 → t ≡ stepState s (getD w (s .length) 0) (getD w (s .border) 0)
     → Going w work₀ (set work (s .length - 1) (s .border)) t
-scan-goes-on {w} {work₀} {work} {s} {t} g f x a =
-    let scanned = g .resumes .scanned in
-    let b : t .length - 1 ≡ suc (s .length - 1) = omega (arith, scanned .shorter, a .longer) in
-    let d : suc (s .length - 1) ≡ s .length = omega (arith, scanned .shorter) in
+scan-goes-on {w} {work₀} {work} {s} t g f l m e =
+    let a = stepped w s t (g .scanned) l m e in
+    let b : t .length - 1 ≡ suc (s .length - 1) = omega (arith, g .scanned .shorter, a .longer) in
+    let d : suc (s .length - 1) ≡ s .length = omega (arith, g .scanned .shorter) in
     record {
-      resumes = a .resumes;
-      table = rw b (table-set w work (s .length - 1) (s .border) (g .table) (omega (arith, x .inside, g .long, f .entries)) (rw d scanned));
-      kept = drop-set-lt (length w) work (s .length - 1) (s .border) (omega (arith, x .inside)) ∙ g .kept;
+      scanned = a .scanned;
+      table = rw b (table-set w work (s .length - 1) (s .border) (g .table) (omega (arith, g .long, f .entries)) (rw d (g .scanned)));
+      kept = drop-set-lt (length w) work (s .length - 1) (s .border) (omega arith) ∙ g .kept;
       long = length-set work (s .length - 1) (s .border) ∙ g .long;
     }
 
-pub scan-stops : {w work₀ work : List ℕ} {s : Scan} → Going w work₀ work s → ¬ GoesOn w s → Scanning w work₀ s work
-scan-stops g n = record { rests = rests (g .resumes) n; table = g .table; kept = g .kept }
+pub scan-stops : {w work₀ work : List ℕ} {s : Scan} → Going w work₀ work s → Stops w (s .length) (s .border) → Scanning w work₀ s work
+scan-stops g h = record { rests = record { scanned = g .scanned; stops = h }; table = g .table; kept = g .kept }
 
 -- ---- the walk
 

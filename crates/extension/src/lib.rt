@@ -23,11 +23,16 @@ fn scan_borders(word: &[u8], work: &mut [u16]) -> Scan
     ensures { λ r. ⌜ Scanning (now (word .entry)) (now (work .entry)) r (now (work .exit)) ⌝ }
 {
     let mut s = Scan::start();
-    while s.goes_on(word) {
+    while s.length < word.len() {
         let at = s.length;
         let border = s.border;
-        s = s.advance(word);
+        let new = word[at];
+        let met = word[border];
+        if met < new {
+            return s;
+        }
         work[at - 1] = border as u16;
+        s = s.step(new, met);
     }
     s
 }

@@ -1,9 +1,8 @@
 -- DEFINITIONS. The scan's state, and what its functions ask and promise. What a state means is Scanned of the theory.
-use mathlib.Core.Path.{_≡_}
 use mathlib.Core.Bool.{true, false}
 use mathlib.Core.List.{List}
 use Prim.Native.Nat.{ℕ, _+_, _≤_, _<_}
-use lib.ListN.{length, getD}
+use lib.ListN.{length}
 use lib.Dec.{eqb}
 use Rattle.words.specs.Words.{mostLetters}
 use Rattle.words.specs.scan.Scanned.{Scanned, Stops}
@@ -24,16 +23,6 @@ pub record Short (s : Scan) : Type 0 where
 pub record Resumes (w : List ℕ) (s : Scan) : Type 0 where
   pub short : length w ≤ mostLetters
   pub scanned : Scanned w (s .length) (s .border)
-
--- a letter is left that is not larger than the letter it meets
-pub record GoesOn (w : List ℕ) (s : Scan) : Type 0 where
-  pub inside : s .length < length w
-  pub falls : getD w (s .length) 0 ≤ getD w (s .border) 0
-
--- a scan with one letter more
-pub record Advanced (w : List ℕ) (s t : Scan) : Type 0 where
-  pub resumes : Resumes w t
-  pub longer : t .length ≡ s .length + 1
 
 -- a scan that has stopped
 pub record Rests (w : List ℕ) (s : Scan) : Type 0 where

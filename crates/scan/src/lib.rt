@@ -1,7 +1,6 @@
 //! The scan that the test and both factorizations share: it reads letters as long as what is read is inverse Lyndon.
 ghost use mathlib.Core.Path.{_≡_};
-ghost use Rattle.words.specs.orders.Decisions.{Decides};
-ghost use Rattle.scan.specs.State.{startState, stepState, Short, Resumes, GoesOn, Advanced, Rests};
+ghost use Rattle.scan.specs.State.{startState, stepState, Short, Resumes, Rests};
 
 /// The scan's state (paper 01: a state with two places): the number of letters read, and the length of their longest border, which is
 /// the place of the letter that the next one meets.
@@ -37,29 +36,6 @@ impl Scan {
             length: self.length + 1,
         }
     }
-
-    /// Whether a letter is left that is not larger than the letter it meets.
-    pub fn goes_on(self, word: &[u8]) -> bool
-        requires { ⌜ Resumes (now word) self ⌝ }
-        ensures { λ r. ⌜ Decides (GoesOn (now (word .entry)) self) r ⌝ }
-    {
-        let at = self.length;
-        let border = self.border;
-        if word.len() <= at {
-            return false;
-        }
-        word[at] <= word[border]
-    }
-
-    /// The state after that letter.
-    pub fn advance(self, word: &[u8]) -> Scan
-        requires { ⌜ Resumes (now word) self × GoesOn (now word) self ⌝ }
-        ensures { λ r. ⌜ Advanced (now (word .entry)) self r ⌝ }
-    {
-        let at = self.length;
-        let border = self.border;
-        self.step(word[at], word[border])
-    }
 }
 
 /// Goes on with a scan to the end of the word or to a letter that is larger than the one it meets.
@@ -68,8 +44,15 @@ pub fn scan_on(word: &[u8], from: Scan) -> Scan
     ensures { λ r. ⌜ Rests (now (word .entry)) r ⌝ }
 {
     let mut s = from;
-    while s.goes_on(word) {
-        s = s.advance(word);
+    while s.length < word.len() {
+        let at = s.length;
+        let border = s.border;
+        let new = word[at];
+        let met = word[border];
+        if met < new {
+            return s;
+        }
+        s = s.step(new, met);
     }
     s
 }

@@ -1,8 +1,8 @@
--- Each turn takes one step and notes the border of the prefix that it passed; what is noted is a remembered state.
+-- Each turn notes the border of the prefix that is passed and takes one step; what is noted is a remembered state.
 use borrow.Author.Needs.{needs}
 use Prim.Native.Nat.{_-_}
+use native.Mathlib.Omega.{arith}
 use lib.ListN.{length}
-use Rattle.words.specs.orders.Decisions.{decides-true, decides-false}
 use Rattle.scan.proofs.StateLaws.{nearer}
 use Rattle.extension.proofs.ScanLaws.{Going, scan-starts, scan-goes-on, scan-stops}
 use Rattle.extension.proofs.scan_borders.Statement.{statement}
@@ -20,11 +20,17 @@ start-requires c κs = search needs
 loop-holds : tie.Need-loop-holds Inv-loop μ-loop
 loop-holds c = scan-starts _ _ _ (c .before .before .before .pre) (c .start .ensures)
 
-goes-on-requires : tie.Need-goes-on-requires Inv-loop μ-loop
-goes-on-requires c κs = c .loop .inv .resumes
+shared-slice-read-new : tie.Need-shared-slice-read-new Inv-loop μ-loop
+shared-slice-read-new c = search needs
 
-advance-requires : tie.Need-advance-requires Inv-loop μ-loop
-advance-requires c κs = (c .before .before .loop .inv .resumes, decides-true (c .before .goes-on .ensures) (c .if1 .taken))
+shared-slice-read-met : tie.Need-shared-slice-read-met Inv-loop μ-loop
+shared-slice-read-met c = search needs
+
+same-length : tie.Need-same-length Inv-loop μ-loop
+same-length c = search needs
+
+returns : tie.Need-returns Inv-loop μ-loop
+returns c = scan-stops (c .before .before .before .before .before .loop .inv) (λ l. c .if2 .taken)
 
 cast-work : tie.Need-cast-work Inv-loop μ-loop
 cast-work c = search needs
@@ -38,23 +44,28 @@ mul-work c = search needs
 slice-write-work : tie.Need-slice-write-work Inv-loop μ-loop
 slice-write-work c = search needs
 
+step-requires : tie.Need-step-requires Inv-loop μ-loop
+step-requires c κs = search needs
+
 loop-less : tie.Need-loop-less Inv-loop μ-loop
-loop-less c = nearer (decides-true (c .before .before .goes-on .ensures) (c .before .if1 .taken)) (c .advance .ensures)
+loop-less c =
+    let turn = c .before .before .before .before in
+    nearer _ (turn .before .before .loop .s) (c .step .result) _ _ (turn .if1 .taken) (c .step .ensures)
 
 loop-again : tie.Need-loop-again Inv-loop μ-loop
 loop-again c =
-    let turn = c .before .before in
-    let start = turn .before .before .before .before .before in
-    scan-goes-on (turn .before .loop .inv) (start .pre) (decides-true (turn .goes-on .ensures) (c .before .if1 .taken)) (c .advance .ensures)
+    let turn = c .before .before .before .before in
+    let at-loop = turn .before .before in
+    scan-goes-on (c .step .result) (at-loop .loop .inv) (at-loop .before .before .before .before .pre) (turn .if1 .taken) (c .before .if2 .left) (c .step .ensures)
 
-same-length : tie.Need-same-length Inv-loop μ-loop
-same-length c = search needs
+same-length-2 : tie.Need-same-length-2 Inv-loop μ-loop
+same-length-2 c = search needs
 
-returns : tie.Need-returns Inv-loop μ-loop
-returns c = scan-stops (c .before .before .loop .inv) (decides-false (c .before .goes-on .ensures) (c .if1 .left))
+returns-2 : tie.Need-returns-2 Inv-loop μ-loop
+returns-2 c = scan-stops (c .before .before .loop .inv) (λ l. absurd (omega arith))
 
 pub scan-borders-spec : {M : Type 1} → statement M
 scan-borders-spec =
     tie.close
-    (tie.spec Inv-loop μ-loop start-requires loop-holds goes-on-requires advance-requires cast-work sub-work mul-work slice-write-work loop-less
-    loop-again same-length returns)
+    (tie.spec Inv-loop μ-loop start-requires loop-holds shared-slice-read-new shared-slice-read-met same-length returns cast-work sub-work
+    mul-work slice-write-work step-requires loop-less loop-again same-length-2 returns-2)

@@ -1,36 +1,50 @@
 -- Each step keeps that the letters read are inverse Lyndon with the state's border as their longest.
 use borrow.Author.Needs.{needs}
 use Prim.Native.Nat.{_-_}
+use native.Mathlib.Omega.{arith}
 use lib.ListN.{length}
-use Rattle.words.specs.orders.Decisions.{decides-true, decides-false}
-use Rattle.scan.specs.State.{Resumes}
-use Rattle.scan.proofs.StateLaws.{nearer, rests}
+use Rattle.words.specs.scan.Scanned.{Scanned}
+use Rattle.scan.proofs.StateLaws.{nearer, stepped}
 use Rattle.scan.proofs.scan_on.Statement.{statement}
 use Rattle.scan.proofs.scan_on.Tie as tie
 
 abbrev Inv-loop : tie.InvT-loop
-Inv-loop word s₀ s = Resumes word s
+Inv-loop word s₀ s = Scanned word (s .length) (s .border)
 
 abbrev μ-loop : tie.MeasureT-loop
 μ-loop word s₀ s = length word - s .length
 
 loop-holds : tie.Need-loop-holds Inv-loop μ-loop
-loop-holds c = c .before .pre
+loop-holds c = c .before .pre .scanned
 
-goes-on-requires : tie.Need-goes-on-requires Inv-loop μ-loop
-goes-on-requires c κs = search needs
+shared-slice-read-new : tie.Need-shared-slice-read-new Inv-loop μ-loop
+shared-slice-read-new c = search needs
 
-advance-requires : tie.Need-advance-requires Inv-loop μ-loop
-advance-requires c κs = (c .before .before .loop .inv, decides-true (c .before .goes-on .ensures) (c .if1 .taken))
-
-loop-less : tie.Need-loop-less Inv-loop μ-loop
-loop-less c = nearer (decides-true (c .before .before .goes-on .ensures) (c .before .if1 .taken)) (c .advance .ensures)
-
-loop-again : tie.Need-loop-again Inv-loop μ-loop
-loop-again c = c .advance .ensures .resumes
+shared-slice-read-met : tie.Need-shared-slice-read-met Inv-loop μ-loop
+shared-slice-read-met c = search needs
 
 returns : tie.Need-returns Inv-loop μ-loop
-returns c = rests (c .before .before .loop .inv) (decides-false (c .before .goes-on .ensures) (c .if1 .left))
+returns c = record { scanned = c .before .before .before .before .before .loop .inv; stops = λ l. c .if2 .taken }
+
+step-requires : tie.Need-step-requires Inv-loop μ-loop
+step-requires c κs = search needs
+
+loop-less : tie.Need-loop-less Inv-loop μ-loop
+loop-less c =
+    let turn = c .before .before .before .before in
+    nearer _ (turn .before .before .loop .s) (c .step .result) _ _ (turn .if1 .taken) (c .step .ensures)
+
+loop-again : tie.Need-loop-again Inv-loop μ-loop
+loop-again c =
+    let turn = c .before .before .before .before in
+    let at-loop = turn .before .before in
+    stepped (at-loop .before .before .args .word .now) (at-loop .loop .s) (c .step .result) (at-loop .loop .inv) (turn .if1 .taken) (c .before .if2 .left)
+    (c .step .ensures) .scanned
+
+returns-2 : tie.Need-returns-2 Inv-loop μ-loop
+returns-2 c = record { scanned = c .before .before .loop .inv; stops = λ l. absurd (omega arith) }
 
 pub scan-on-spec : {M : Type 1} → statement M
-scan-on-spec = tie.close (tie.spec Inv-loop μ-loop loop-holds goes-on-requires advance-requires loop-less loop-again returns)
+scan-on-spec =
+    tie.close
+    (tie.spec Inv-loop μ-loop loop-holds shared-slice-read-new shared-slice-read-met returns step-requires loop-less loop-again returns-2)
