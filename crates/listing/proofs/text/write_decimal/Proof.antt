@@ -47,17 +47,5 @@ returns c = rw (c .before .before .digit-count .ensures) (spell-end _ _ _ _ _ _ 
 pub write-decimal-spec : {M : Type 1} → statement M
 write-decimal-spec =
     tie.close
-    (tie.spec
-    Inv-loop
-    μ-loop
-    digit-count-requires
-    add-end
-    loop-holds
-    sub-place
-    cast-out
-    add-out
-    slice-write-out
-    loop-less
-    loop-again
-    same-length
-    returns)
+    (tie.spec Inv-loop μ-loop digit-count-requires add-end loop-holds sub-place cast-out add-out slice-write-out loop-less loop-again
+    same-length returns)
