@@ -42,7 +42,6 @@ ends-most : {n : ℕ} {es : List ℕ} → Rises n 0 es → 0 < n → n ≤ mostL
 ends-most {es = es} r p h = omega (arith, rises-few r, list-most es (rises-some r p) (λ i. le-trans (rises-inside r i) h))
 
 pub refused-most : (number : ℕ) → number ≤ mostLetters → length (refusedLine number) ≤ 10 * mostLetters + 256
-unfolding refusedLine
 refused-most number h = rw (line-length (ascii "refused") (decimal number)) (omega (arith, decimal-four number h))
 
 -- ---- the summary's numbers

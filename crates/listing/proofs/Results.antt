@@ -1,6 +1,6 @@
 -- The listing in each of its cases. A refused record is listed by its number (refused-listed). In buffers with room for every record neither cut refuses one
--- that was accepted (icfl-passes, cfl-in-passes), so their ends stand at the fronts of two buffers (front); nor does the summary, so the seven lines
--- are the listing (lines-are).
+-- that was accepted (icfl-passes, cfl-in-passes), so the ends of both stand at the fronts of two buffers (both-cut); nor does the summary, so the seven
+-- lines are the listing (lines-are).
 use mathlib.Core.Path.{_≡_, ap, sym, _∙_}
 use mathlib.Core.List.{List}
 use Prim.Native.Nat.{ℕ, _+_, _*_, _≤_, _<_}

@@ -27,45 +27,32 @@ count-step number count rest g l = record { digits = omega (arith, g .digits, le
 pub count-end : (number count rest : ℕ) → Counting number count rest → rest ≤ 9 → count ≡ length (decimal number)
 count-end number count rest g l = omega (arith, g .digits, ap length (decimal-small rest (omega arith)))
 
--- ---- digits: those still to come, stored in the buffer as it is, make the number stored in the buffer as it was
+-- ---- digits: those that are left, stored in the buffer as it is, make the number stored in the buffer as it was
 
-pub record Spelling (number : ℕ) (out₀ out : List ℕ) (at place rest : ℕ) : Type 0 where
-  pub low : at ≤ place
-  pub high : place ≤ at + length (decimal number)
-  pub left : sets out at (digits (place - at) rest) ≡ sets out₀ at (decimal number)
+pub record Spelling (number : ℕ) (out₀ out : List ℕ) (at left rest : ℕ) : Type 0 where
+  pub few : left ≤ length (decimal number)
+  pub stores : sets out at (digits left rest) ≡ sets out₀ at (decimal number)
   pub long : length out ≡ length out₀
 
-pub spell-start : (number : ℕ) (out : List ℕ) (at place : ℕ) → place ≡ at + length (decimal number) → Spelling number out out at place number
-spell-start number out at place z = record {
-  low = omega arith;
-  high = omega arith;
-  left = rw (let y : place - at ≡ length (decimal number) = omega arith in y, ← decimal-digits number);
-  long = refl;
-}
+pub spell-start : (number : ℕ) (out : List ℕ) (at : ℕ) → Spelling number out out at (length (decimal number)) number
+spell-start number out at = record { few = omega arith; stores = rw (← decimal-digits number); long = refl }
 
-pub spell-step : (number : ℕ) (out₀ out : List ℕ) (at place rest : ℕ) → Spelling number out₀ out at place rest → at < place
-    → Spelling number out₀ (set out (place - 1) (48 + rest % 10)) at (place - 1) (rest / 10)
+pub spell-step : (number : ℕ) (out₀ out : List ℕ) (at left rest : ℕ) → Spelling number out₀ out at left rest → 0 < left
+    → Spelling number out₀ (set out (at + (left - 1)) (48 + rest % 10)) at (left - 1) (rest / 10)
 unfolding digits
-spell-step number out₀ out at place rest g l = record {
-  low = omega arith;
-  high = omega (arith, g .high);
-  left = step (place - 1 - at) (omega arith) ∙ g .left;
-  long = length-set out (place - 1) (48 + rest % 10) ∙ g .long;
-}
-  where
-    step : (k : ℕ) → place ≡ suc (at + k)
-        → sets (set out (place - 1) (48 + rest % 10)) at (digits k (rest / 10)) ≡ sets out at (digits (place - at) rest)
-    step k e =
-        let size : place - at ≡ suc k = omega arith in
-        let last : place - 1 ≡ at + length (digits k (rest / 10)) = omega (arith, length-digits k (rest / 10)) in
-        rw (size, last) (sym (sets-last (digits k (rest / 10)) out at (48 + rest % 10)))
+spell-step number out₀ out at left rest g l =
+    let z : left ≡ suc (left - 1) = omega arith in
+    let stored = rw (length-digits (left - 1) (rest / 10)) at (sets-last (digits (left - 1) (rest / 10)) out at (48 + rest % 10)) in
+    record {
+      few = omega (arith, g .few);
+      stores = sym stored ∙ (rw z at (g .stores));
+      long = length-set out (at + (left - 1)) (48 + rest % 10) ∙ g .long;
+    }
 
-pub spell-end : (number : ℕ) (out₀ out : List ℕ) (at place rest : ℕ) → Spelling number out₀ out at place rest → place ≤ at
+pub spell-end : (number : ℕ) (out₀ out : List ℕ) (at left rest : ℕ) → Spelling number out₀ out at left rest → left ≤ 0
     → WroteAt at (decimal number) out₀ (at + length (decimal number)) out
 unfolding digits
-spell-end number out₀ out at place rest g l =
-    let z : place - at ≡ 0 = omega arith in
-    record { place = refl; content = rw z at (g .left) }
+spell-end number out₀ out at left rest g l = let z : left ≡ 0 = omega arith in record { place = refl; content = rw z at (g .stores) }
 
 -- ---- bytes, one more
 

@@ -63,13 +63,12 @@ unfolding decimal commaList line flatten
 sevenLines n ends strict summary = flatten (linesOf n ends strict summary)
 
 -- "the one line `refused=` and the number"
-unfoldable pub refusedLine : ℕ → List ℕ
-unfolding decimal line
-refusedLine e = line (ascii "refused") (decimal e)
+abbrev pub refusedLine : ℕ → List ℕ
+refusedLine number = line (ascii "refused") (decimal number)
 
 -- the listing of a record
 unfoldable pub listingOf : List ℕ → List ℕ
-unfolding sevenLines refusedLine icflEnds cflInEnds summaryOf tried
+unfolding decimal line sevenLines icflEnds cflInEnds summaryOf tried
 listingOf w = sevenLines (length w) (icflEnds w) (cflInEnds w) (summaryOf (icflEnds w)) unless recordLines w then refusedLine
 
 -- what the call answers and leaves in its buffers: the listing's length, the listing at the front of out, and the others as the two cuts leave them

@@ -23,7 +23,7 @@ fn write_result(word: &[u8], ends: &[u16], strict: &[u16], out: &mut [u8]) -> us
     text::write_lines(word.len() as u16, ends, strict, summary, out)
 }
 
-// How many entries a cut wrote.
+// How many entries a cut wrote; 0 beside a refusal.
 fn entries_of(cut: Counted) -> usize
     ensures { λ r. ⌜ r ≡ entriesOf cut ⌝ }
 {

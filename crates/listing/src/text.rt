@@ -36,15 +36,15 @@ fn write_decimal(number: u16, out: &mut [u8], at: usize) -> usize
     requires { ⌜ FitsAt at (decimal number) (now out) ⌝ }
     ensures { λ r. ⌜ WroteAt at (decimal number) (now (out .entry)) r (now (out .exit)) ⌝ }
 {
-    let end = at + digit_count(number);
-    let mut place = end;
+    let count = digit_count(number);
+    let mut left = count;
     let mut rest = number;
-    while at < place {
-        place -= 1;
-        out[place] = b'0' + (rest % 10) as u8;
+    while 0 < left {
+        left -= 1;
+        out[at + left] = b'0' + (rest % 10) as u8;
         rest /= 10;
     }
-    end
+    at + count
 }
 
 // The numbers in decimal, with commas between them.

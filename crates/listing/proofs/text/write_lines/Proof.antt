@@ -4,7 +4,7 @@ use native.Mathlib.Omega.{arith}
 use Prim.Native.Nat.{_+_, _≤_}
 use lib.ListN.{length, drop}
 use Rattle.listing.specs.Listing.{linesOf, sevenLines}
-use Rattle.listing.specs.Writing.{total, WroteAt}
+use Rattle.listing.specs.Writing.{total}
 use Rattle.listing.proofs.Stores.{wrote-long, wrote-none, wrote-then}
 use Rattle.listing.proofs.text.write_lines.Statement.{statement}
 use Rattle.listing.proofs.text.write_lines.Tie as tie
@@ -72,13 +72,10 @@ write-list-line-requires-3 c κs =
     let fifth = c .before .before .before .before .before .before .before .before .before .before in
     record { inside = omega (arith, room-at fifth) }
 
--- after all of them
-wrote-at : (c : tie.After-write-list-line3)
-    → (let a = start (c .before .before .before .before .before .before .before .before .before .before .before) .args in
-    WroteAt 0 (sevenLines (a .length) (a .ends .now) (a .strict .now) (a .summary)) (a .out .now) (c .write-list-line3 .result)
-    (c .write-list-line3 .last .1 .1 .0))
+returns : tie.Need-returns
 unfolding sevenLines
-wrote-at seventh =
+returns c =
+    let seventh = c .before .before in
     let sixth = seventh .before .before .before .before .before .before in
     let fifth = sixth .before .before .before .before .before in
     let fourth = fifth .before .before .before .before .before in
@@ -89,10 +86,7 @@ wrote-at seventh =
     (wrote-then (seventh .write-list-line3 .ensures) (wrote-none _ _)))))))
 
 same-length : tie.Need-same-length
-same-length c = wrote-long (wrote-at (c .before .before))
-
-returns : tie.Need-returns
-returns c = wrote-at (c .before .before)
+same-length c = wrote-long (returns c)
 
 pub write-lines-spec : {M : Type 1} → statement M
 write-lines-spec =

@@ -1,9 +1,9 @@
 -- The first number, then a comma and a number in each turn; the numbers that are left have room.
 use borrow.Author.Needs.{needs}
 use mathlib.Core.Path.{_∙_}
-use native.Mathlib.Omega.{arith}
 use mathlib.Core.List.{List}
 use Prim.Native.Nat.{ℕ, suc, _+_, _-_, _≤_}
+use native.Mathlib.Omega.{arith}
 use lib.ListN.{length, drop, getD, length-set}
 use Rattle.listing.specs.Listing.{decimal, commaEach}
 use Rattle.listing.proofs.Stores.{wrote-then, wrote-long, Left, left-all, left-byte, left-text, left-none}

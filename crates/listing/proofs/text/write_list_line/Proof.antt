@@ -35,11 +35,11 @@ slice-write-out-2 c =
 add-result : tie.Need-add-result
 add-result c = omega (arith, room-at (start (c .before .before .before .before .before .before)))
 
-same-length : tie.Need-same-length
-same-length c = wrote-long (line-wrote (c .before .before .before .before .before .before .write-bytes .ensures) (c .before .before .write-list .ensures))
-
 returns : tie.Need-returns
 returns c = line-wrote (c .before .before .before .before .before .before .write-bytes .ensures) (c .before .before .write-list .ensures)
+
+same-length : tie.Need-same-length
+same-length c = wrote-long (returns c)
 
 pub write-list-line-spec : {M : Type 1} → statement M
 write-list-line-spec =
