@@ -1,6 +1,6 @@
--- How long the texts are: a number of at most 4096 has at most four digits (decimal-four), a list of such numbers at most five bytes an entry
--- (list-most), and a listing at most 41,216 bytes (seven-most).
-use mathlib.Core.Path.{_≡_, refl}
+-- How long the texts are: a number of at most 4,096 has at most four digits (decimal-four), a list of such numbers at most five bytes an entry
+-- (list-most), and the lines of an accepted record have together at most 41,216 bytes (total-most).
+use mathlib.Core.Path.{_≡_, refl, ap, _∙_}
 use mathlib.Core.Bool.{Bool, true, false}
 use mathlib.Core.List.{List, [], _∷_, flatten}
 use Prim.Native.Nat.{ℕ, suc, _+_, _-_, _*_, _≤_, _<_}
@@ -9,42 +9,40 @@ use native.Mathlib.Decide.{decLt}
 use native.Mathlib.Omega.{arith}
 use lib.Dec.{eqb}
 use lib.ListN.{length, getD, length-append, List·getD-eq-default}
+use Rattle.words.specs.Words.{mostLetters}
 use Rattle.words.specs.Factorizations.{icflEnds, cflInEnds}
 use Rattle.words.specs.places.EndsRise.{Rises, done, more, rises-few, rises-inside, rises-some, icfl-ends-rise, cfl-in-ends-rise}
-use Rattle.checks.proofs.RefusalLaws.{Accepted}
-use Rattle.reading.specs.Summary.{lengthsFrom, greatest, startOf, bandsOf, summaryAs}
+use Rattle.checks.proofs.RecordLaws.{Accepted}
+use Rattle.reading.specs.Summary.{lengthsFrom, greatest, startOf, bandsOf, summaryOf}
 use Rattle.reading.proofs.SummaryLaws.{count-most, bands-length, bands-at}
-use Rattle.reading.specs.declared.summary.Summary.{Summary}
-use Rattle.listing.specs.Listing.{ascii, decimal, commaEach, commaList, line, sevenLines, refusedLine}
+use Rattle.listing.specs.Listing.{ascii, decimal, commaEach, commaList, linesOf, refusedLine}
+use Rattle.listing.specs.Writing.{total}
 use Rattle.listing.proofs.Decimals.{decimal-most}
-use Rattle.listing.proofs.Texts.{comma-none, comma-more, comma-first}
-use Rattle.listing.proofs.Lines.{line-is}
-use Rattle.listing.proofs.SevenLines.{seven-flatten}
+use Rattle.listing.proofs.Texts.{line-length}
 
-line-length : (key value : List ℕ) → length (line key value) ≡ length key + length value + 2
-line-length key value = rw (line-is key value) (simp length-append (omega arith))
+pub total-is : (texts : List (List ℕ)) → length (flatten texts) ≡ total texts
+unfolding flatten
+total-is [] = refl
+total-is (text ∷ texts) = length-append text (flatten texts) ∙ ap (λ (k : ℕ). length text + k) (total-is texts)
 
-decimal-four : (n : ℕ) → n ≤ 4096 → length (decimal n) ≤ 4
+decimal-four : (n : ℕ) → n ≤ mostLetters → length (decimal n) ≤ 4
 decimal-four n h = decimal-most 3 n (omega arith)
 
-comma-most : (ns : List ℕ) → ((i : ℕ) → getD ns i 0 ≤ 4096) → length (commaEach ns) ≤ 5 * length ns
-comma-most [] h = rw comma-none (omega arith)
-comma-most (n ∷ ns) h =
-    rw (comma-more n ns) (simp length-append (omega (arith, decimal-four n (h 0), comma-most ns (λ i. h (suc i)))))
+comma-most : (ns : List ℕ) → ((i : ℕ) → getD ns i 0 ≤ mostLetters) → length (commaEach ns) ≤ 5 * length ns
+unfolding commaEach
+comma-most [] h = omega arith
+comma-most (n ∷ ns) h = simp length-append (omega (arith, decimal-four n (h 0), comma-most ns (λ i. h (suc i))))
 
-list-most : (ns : List ℕ) → 0 < length ns → ((i : ℕ) → getD ns i 0 ≤ 4096) → length (commaList ns) ≤ 5 * length ns
+list-most : (ns : List ℕ) → 0 < length ns → ((i : ℕ) → getD ns i 0 ≤ mostLetters) → length (commaList ns) ≤ 5 * length ns
+unfolding commaList
 list-most [] l h = absurd (omega arith)
-list-most (n ∷ ns) l h =
-    rw (comma-first (n ∷ ns) l) (simp length-append (omega (arith, decimal-four n (h 0), comma-most ns (λ i. h (suc i)))))
+list-most (n ∷ ns) l h = simp length-append (omega (arith, decimal-four n (h 0), comma-most ns (λ i. h (suc i))))
 
--- the line of a refusal
-refused-is : (e : ℕ) → refusedLine e ≡ line (ascii "refused") (decimal e)
-unfolding refusedLine
-refused-is e = refl
+ends-most : {n : ℕ} {es : List ℕ} → Rises n 0 es → 0 < n → n ≤ mostLetters → length (commaList es) ≤ 5 * mostLetters
+ends-most {es = es} r p h = omega (arith, rises-few r, list-most es (rises-some r p) (λ i. le-trans (rises-inside r i) h))
 
-pub refused-most : (e : ℕ) → e ≤ 4096 → length (refusedLine e) ≤ 41216
-unfolding ascii
-refused-most e h = rw (refused-is e, line-length (ascii "refused") (decimal e)) (omega (arith, decimal-four e h))
+pub refused-most : (number : ℕ) → number ≤ mostLetters → length (refusedLine number) ≤ 10 * mostLetters + 256
+refused-most number h = rw (line-length (ascii "refused") (decimal number)) (omega (arith, decimal-four number h))
 
 -- ---- the summary's numbers
 
@@ -71,23 +69,19 @@ bands-most es k = go (decLt k 13)
 
 -- ---- the seven lines
 
-lines-most : (n : ℕ) (ends strict : List ℕ) (s : Summary) → length (decimal n) ≤ 4 → length (decimal (s .count)) ≤ 4
-    → length (commaList ends) ≤ 20480 → length (commaList strict) ≤ 20480 → length (decimal (s .longest)) ≤ 4 → length (decimal (s .from)) ≤ 4
-    → length (commaList (s .bands)) ≤ 65 → length (sevenLines n ends strict s) ≤ 41216
-unfolding flatten ascii
-lines-most n ends strict s a b c d e f g = rw (seven-flatten n ends strict s) (simp (length-append, line-length) (omega arith))
-
-pub seven-most : (w : List ℕ) → Accepted w
-    → length (sevenLines (length w) (icflEnds w) (cflInEnds w) (summaryAs 0 (icflEnds w))) ≤ 41216
-unfolding summaryAs
-seven-most w a = lines-most (length w) (icflEnds w) (cflInEnds w) (summaryAs 0 es)
-    (decimal-four (length w) (a .short))
-    (decimal-four (length es) (omega (arith, few)))
-    (omega (arith, few, list-most es (rises-some rise (a .nonempty)) (λ i. le-trans (rises-inside rise i) (a .short))))
-    (omega (arith, strict-few, list-most (cflInEnds w) (rises-some strict-rise (a .nonempty)) (λ i. le-trans (rises-inside strict-rise i) (a .short))))
-    (decimal-four (greatest (lengthsFrom 0 es)) (le-trans (longest-most rise) (a .short)))
-    (decimal-four (startOf (greatest (lengthsFrom 0 es)) 0 es) (le-trans (start-most (greatest (lengthsFrom 0 es)) rise) (a .short)))
-    (omega (arith, bands-length es, list-most (bandsOf es) (omega (arith, bands-length es)) (λ i. omega (arith, bands-most es i, few))))
+pub total-most : (w : List ℕ) → Accepted w → total (linesOf (length w) (icflEnds w) (cflInEnds w) (summaryOf (icflEnds w))) ≤ 10 * mostLetters + 256
+unfolding summaryOf
+total-most w a = simp line-length (omega (
+  arith,
+  decimal-four (length w) (a .short),
+  decimal-four (length es) few,
+  ends-most rise (a .nonempty) (a .short),
+  ends-most (cfl-in-ends-rise w) (a .nonempty) (a .short),
+  decimal-four (greatest (lengthsFrom 0 es)) (le-trans (longest-most rise) (a .short)),
+  decimal-four (startOf (greatest (lengthsFrom 0 es)) 0 es) (le-trans (start-most (greatest (lengthsFrom 0 es)) rise) (a .short)),
+  list-most (bandsOf es) (omega (arith, bands-length es)) (λ i. le-trans (bands-most es i) few),
+  bands-length es,
+))
   where
     es : List ℕ
     es = icflEnds w
@@ -95,11 +89,5 @@ seven-most w a = lines-most (length w) (icflEnds w) (cflInEnds w) (summaryAs 0 e
     rise : Rises (length w) 0 es
     rise = icfl-ends-rise w
 
-    strict-rise : Rises (length w) 0 (cflInEnds w)
-    strict-rise = cfl-in-ends-rise w
-
-    few : length es ≤ 4096
+    few : length es ≤ mostLetters
     few = omega (arith, rises-few rise, a .short)
-
-    strict-few : length (cflInEnds w) ≤ 4096
-    strict-few = omega (arith, rises-few strict-rise, a .short)

@@ -2,9 +2,6 @@ pub mod Stores
 pub mod Decimals
 pub mod DecimalIs
 pub mod Texts
-pub mod Lines
-pub mod SevenLines
 pub mod Bounds
 pub mod Results
-pub mod Cases
 pub mod ListedLaws

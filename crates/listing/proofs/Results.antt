@@ -1,75 +1,131 @@
--- The listing by the number of its refusal (listing-is, lines-accepted, lines-refused), and the listing of a record that was cut: its summary is
--- accepted, so the seven lines have room (printable) and are the listing (result-wrote).
-use mathlib.Core.Path.{_≡_, refl, sym, _∙_}
-use mathlib.Core.List.{List, [], _∷_}
-use Prim.Native.Nat.{ℕ, zero, suc, _≤_, _<_}
+-- The listing in each of its cases. A refused record is listed by its number (refused-listed). In buffers with room for every record neither cut refuses one
+-- that was accepted (icfl-passes, cfl-in-passes), so the ends of both stand at the fronts of two buffers (both-cut); nor does the summary, so the seven
+-- lines are the listing (lines-are).
+use mathlib.Core.Path.{_≡_, ap, sym, _∙_}
+use mathlib.Core.List.{List}
+use Prim.Native.Nat.{ℕ, _+_, _*_, _≤_, _<_}
+use native.Mathlib.Nat.{zero-add}
 use native.Mathlib.Omega.{arith}
-use lib.ListN.{length}
+use borrow.Author.Tests.{le-ltb}
+use lib.ListN.{length, take, drop, length-append}
+use lib.Seq.{take-at}
+use Rattle.words.specs.Words.{mostLetters}
 use Rattle.words.specs.Factorizations.{icflEnds, cflInEnds}
-use Rattle.words.specs.places.EndsRise.{Rises as RisesTo, done as there, more as later, rises-some, icfl-ends-rise}
-use Rattle.checks.specs.Refusals.{recordRefusal, endsRefusal}
-use Rattle.checks.proofs.RefusalLaws.{record-accepted}
-use Rattle.checks.proofs.EndsLaws.{Rises, done, more, EndsView, valid, invalid, ends-view}
-use Rattle.checks.proofs.LineLaws.{first-next}
-use Rattle.reading.specs.Summary.{summaryRefusal, summaryAs}
+use Rattle.words.specs.places.EndsRise.{rises-few, rises-some, icfl-ends-rise, cfl-in-ends-rise}
+use Rattle.buffers.specs.Buffers.{cleared, written}
+use Rattle.checks.specs.declared.Checked.{Checked}
+use Rattle.checks.specs.declared.Checked.the-variants.{Passed}
+use Rattle.checks.specs.declared.Counted.{Counted}
+use Rattle.checks.specs.Lines.{Line, tried, recordLines}
+use Rattle.checks.specs.Answers.{numberOf, Filled}
+use Rattle.checks.proofs.LineLaws.{IsRefused, refused, unmet, all-pass}
+use Rattle.checks.proofs.RecordLaws.{accepted}
+use Rattle.checks.proofs.EndsLaws.{EndsOf, ends-pass}
+use Rattle.icfl.specs.Icfl.{icflLines, IcflDone}
+use Rattle.cfl.specs.CflIn.{cflInLines, CflInDone}
+use Rattle.reading.specs.Summary.{summaryLines, summaryOf, Summarized}
 use Rattle.reading.specs.declared.summary.Summary.{Summary}
 use Rattle.reading.proofs.SummaryLaws.{bands-length}
-use Rattle.listing.specs.Listing.{sevenLines, refusedLine, linesAs, listingOf}
-use Rattle.listing.specs.Writing.{Wrote, Printable, CutLists}
-use Rattle.listing.proofs.Bounds.{seven-most}
+use Rattle.listing.specs.Listing.{linesOf, sevenLines, refusedLine, listingOf, Listed}
+use Rattle.listing.specs.Writing.{FitsAt, WroteAt, Printable, CutLists, ListingRoom, entriesOf}
+use Rattle.listing.proofs.Stores.{wrote-front}
+use Rattle.listing.proofs.Bounds.{total-is, refused-most, total-most}
 
--- ---- the listing by its refusal's number
+-- ---- a record that is refused
 
-pub listing-is : (w : List ℕ) → listingOf w ≡ linesAs (recordRefusal w) w
-unfolding listingOf
-listing-is w = refl
+module _ {work ends strict out : List ℕ} (room : ListingRoom work ends strict out) {number : ℕ} (byte : number < 256) where
+  pub refused-fits : FitsAt 0 (refusedLine number) out
+  refused-fits = record { inside = omega (arith, room .writing, refused-most number (omega arith)) }
 
-lines-accepted : (w : List ℕ) → linesAs 0 w ≡ sevenLines (length w) (icflEnds w) (cflInEnds w) (summaryAs 0 (icflEnds w))
-unfolding linesAs
-lines-accepted w = refl
+  pub refused-listed : {w : List ℕ} {k : Checked} {n : ℕ} {out′ : List ℕ} → k ≡ tried (recordLines w) → IsRefused k → number ≡ numberOf k
+      → WroteAt 0 (refusedLine number) out n out′ → Listed w work ends strict out n work ends strict out′
+  unfolding listingOf
+  refused-listed {w} e h z x =
+      let is : refusedLine number ≡ listingOf w = refused (recordLines w) _ refusedLine e h z in
+      record {
+        size = rw (← is) (omega (arith, x .place));
+        text = rw (← is) (wrote-front x (omega (arith, refused-fits .inside)));
+        worked = refused (recordLines w) (cleared (3 * length w) work) (λ number. work) e h z;
+        pieces = refused (recordLines w) (written (icflEnds w) ends) (λ number. ends) e h z;
+        stricts = refused (recordLines w) (written (cflInEnds w) strict) (λ number. strict) e h z;
+      }
 
-pub lines-refused : (e : ℕ) (w : List ℕ) → 0 < e → linesAs e w ≡ refusedLine e
-unfolding linesAs
-lines-refused zero w l = absurd (omega arith)
-lines-refused (suc e) w l = refl
+-- ---- a record that is accepted
 
-pub listing-most : (w : List ℕ) → recordRefusal w ≡ 0 → length (listingOf w) ≤ 41216
-listing-most w e = rw (listing-is w, e, lines-accepted w) (seven-most w (record-accepted w e))
+-- the entries that the answer of a cut tells of
+front : {lines : List Line} {vs buffer buffer′ : List ℕ} {r : Counted} {n : ℕ} → Filled lines (length vs) vs buffer r buffer′
+    → tried lines ≡ Passed → n ≡ entriesOf r → (take n buffer′ ≡ vs) × (n ≤ length buffer′)
+front {vs = vs} {buffer = buffer} {n = n} f e z =
+    let size : n ≡ length vs = z ∙ ap entriesOf (rw e at (f .answer)) in
+    rw (rw e at (f .result)) (take-at vs (drop (length vs) buffer) n (sym size), rw length-append (omega arith))
 
--- ---- the ends of the piece cut are a list that the summary accepts
+module _ (w : List ℕ) (e : tried (recordLines w) ≡ Passed) where
+  icfl-passes : (work entries : ℕ) → 3 * mostLetters ≤ work → mostLetters ≤ entries → tried (icflLines w work entries) ≡ Passed
+  icfl-passes work entries h k =
+      let u = unmet (recordLines w) e in
+      let works = le-ltb work (3 * length w) (omega (arith, accepted w e .short)) in
+      let stores = le-ltb entries (length (icflEnds w)) (omega (arith, rises-few (icfl-ends-rise w), accepted w e .short)) in
+      all-pass (icflLines w work entries) (u .0, (u .1 .0, (works, (stores, search))))
 
-rises : {n b : ℕ} {es : List ℕ} → RisesTo n b es → Rises n b es
-rises (there z) = done z
-rises (later h r) = more h (rises r)
+  cfl-in-passes : (entries : ℕ) → mostLetters ≤ entries → tried (cflInLines w entries) ≡ Passed
+  cfl-in-passes entries k =
+      let u = unmet (recordLines w) e in
+      let stores = le-ltb entries (length (cflInEnds w)) (omega (arith, rises-few (cfl-in-ends-rise w), accepted w e .short)) in
+      all-pass (cflInLines w entries) (u .0, (u .1 .0, (stores, search)))
 
-ends-pass : (w : List ℕ) → recordRefusal w ≡ 0 → endsRefusal (icflEnds w) (length w) ≡ 0
-ends-pass w e = go (ends-view (icflEnds w) (length w))
-  where
-    go : {k : ℕ} → EndsView (icflEnds w) (length w) k → k ≡ 0
-    go (valid p r) = refl
-    go (invalid m) = absurd (m (rises-some (icfl-ends-rise w) (record-accepted w e .nonempty)) (rises (icfl-ends-rise w)))
+  summary-passes : tried (summaryLines w (icflEnds w)) ≡ Passed
+  summary-passes =
+      let u = unmet (recordLines w) e in
+      let ends : EndsOf (length w) (icflEnds w) = record { some = rises-some (icfl-ends-rise w) (accepted w e .nonempty); rises = icfl-ends-rise w } in
+      all-pass (summaryLines w (icflEnds w)) (u .0, (u .1 .0, (ends-pass (icflEnds w) (length w) ends, search)))
 
-summary-passes : (w : List ℕ) → recordRefusal w ≡ 0 → summaryRefusal w (icflEnds w) ≡ 0
-unfolding summaryRefusal
-summary-passes w e =
-    first-next (recordRefusal w) (endsRefusal (icflEnds w) (length w) ∷ []) e
-    ∙ first-next (endsRefusal (icflEnds w) (length w)) [] (ends-pass w e)
+  listing-is : listingOf w ≡ sevenLines (length w) (icflEnds w) (cflInEnds w) (summaryOf (icflEnds w))
+  unfolding listingOf
+  listing-is = rw e
 
--- ---- the seven lines of a record that was cut, with the summary of its ends
+  listing-most : length (listingOf w) ≤ 10 * mostLetters + 256
+  unfolding sevenLines
+  listing-most = rw (listing-is, total-is (linesOf (length w) (icflEnds w) (cflInEnds w) (summaryOf (icflEnds w)))) (total-most w (accepted w e))
 
-module _ (w ends strict out : List ℕ) (c : CutLists w ends strict out) (s : Summary) (e : s ≡ summaryAs (summaryRefusal w ends) ends) where
-  summary-is : s ≡ summaryAs 0 (icflEnds w)
-  summary-is = e ∙ rw (c .pieces, summary-passes w (c .accepted))
-
-  lines-are : sevenLines (length w) ends strict s ≡ listingOf w
-  lines-are = rw (listing-is w, c .accepted, lines-accepted w, summary-is, c .pieces, c .stricts)
+-- the lines that a record's cuts and its summary give
+module _ (w ends strict out : List ℕ) (c : CutLists w ends strict out) (s : Summary) (x : Summarized w ends s) where
+  summary-is : s ≡ summaryOf (icflEnds w)
+  summary-is = x .answer ∙ rw (c .pieces, summary-passes w (c .accepted))
 
   pub printable : Printable (length w) ends strict s out
-  unfolding summaryAs
+  unfolding summaryOf
   printable = record {
-    fits = record { inside = rw lines-are (omega (arith, c .writing, listing-most w (c .accepted))) };
+    room = rw (summary-is, c .pieces, c .stricts) (omega (arith, c .writing, total-most w (accepted w (c .accepted))));
     thirteen = rw summary-is (sym (bands-length (icflEnds w)));
   }
 
-  pub result-wrote : {r : ℕ} {out′ : List ℕ} → Wrote 0 (sevenLines (length w) ends strict s) out r out′ → Wrote 0 (listingOf w) out r out′
-  result-wrote x = rw (← lines-are) x
+  pub lines-are : sevenLines (length w) ends strict s ≡ listingOf w
+  lines-are = rw (listing-is w (c .accepted), summary-is, c .pieces, c .stricts)
+
+-- both cuts of a record that was accepted, and the entries that their answers tell of
+pub record BothCut (w work ends strict out : List ℕ) (pieces stricts : ℕ) (work′ ends′ strict′ : List ℕ) : Type 0 where
+  pub pieces-inside : pieces ≤ length ends′
+  pub stricts-inside : stricts ≤ length strict′
+  pub lists : CutLists w (take pieces ends′) (take stricts strict′) out
+  pub listed : (n : ℕ) (out′ : List ℕ) → WroteAt 0 (listingOf w) out n out′ → Listed w work ends strict out n work′ ends′ strict′ out′
+
+pub both-cut : {w work ends strict out work′ ends′ strict′ : List ℕ} {r t : Counted} {pieces stricts : ℕ} → ListingRoom work ends strict out
+    → tried (recordLines w) ≡ Passed → IcflDone w work ends r work′ ends′ → pieces ≡ entriesOf r → CflInDone w strict t strict′ → stricts ≡ entriesOf t
+    → BothCut w work ends strict out pieces stricts work′ ends′ strict′
+both-cut {w} {work} {ends} {strict} room e cut p strict-cut s =
+    let passes = icfl-passes w e (length work) (length ends) (room .working) (room .cutting) in
+    let strict-passes = cfl-in-passes w e (length strict) (room .strictCutting) in
+    let pieces-front = front (cut .filled) passes p in
+    let stricts-front = front strict-cut strict-passes s in
+    record {
+      pieces-inside = pieces-front .1;
+      stricts-inside = stricts-front .1;
+      lists = record { accepted = e; pieces = pieces-front .0; stricts = stricts-front .0; writing = room .writing };
+      listed = λ n out′ x. record {
+        size = x .place ∙ zero-add _;
+        text = wrote-front x (omega (arith, room .writing, listing-most w e));
+        worked = rw e (rw passes at (cut .worked));
+        pieces = rw e (rw passes at (cut .filled .result));
+        stricts = rw e (rw strict-passes at (strict-cut .result));
+      };
+    }

@@ -13,5 +13,5 @@ pub record Examples : Type 0 where
   pub long : listingOf (replicate 4097 97) ≡ ascii "refused=2\n"
 
 pub examples : Examples
-unfolding ascii listingOf
+unfolding listingOf
 examples = record { h = refl; i = refl; empty = refl; long = refl }

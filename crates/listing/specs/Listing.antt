@@ -2,23 +2,22 @@
 -- `refused=` and the number."
 use mathlib.Core.Path.{_≡_}
 use mathlib.Core.Bool.{true, false}
-use mathlib.Core.List.{List, [], _∷_, _++_}
+use mathlib.Core.List.{List, [], _∷_, _++_, flatten}
 use Prim.Native.Nat.{ℕ, zero, suc, _+_, _*_, _/_, _%_}
-use Prim.Native.String.{String, [] as empty, _∷_ as _then_}
+use Prim.Native.String.{String, [] as empty, _∷_ as _before_}
 use Prim.Native.Char.{code}
-use lib.ListN.{length, drop}
+use lib.ListN.{length}
 use lib.Dec.{ltb}
 use Rattle.words.specs.Factorizations.{icflEnds, cflInEnds}
-use Rattle.checks.specs.Refusals.{recordRefusal}
-use Rattle.checks.specs.Answers.{writtenAs}
-use Rattle.icfl.specs.Icfl.{workAfter}
-use Rattle.reading.specs.Summary.{summaryAs}
+use Rattle.buffers.specs.Buffers.{cleared, written}
+use Rattle.checks.specs.Lines.{tried, _unless_then_, recordLines}
+use Rattle.reading.specs.Summary.{summaryOf}
 use Rattle.reading.specs.declared.summary.Summary.{Summary}
 
 -- the bytes of a text of ASCII characters
-unfoldable pub ascii : String → List ℕ
+abbrev pub ascii : String → List ℕ
 ascii empty = []
-ascii (c then cs) = code c ∷ ascii cs
+ascii (c before cs) = code c ∷ ascii cs
 
 -- a number of at most k decimal digits; a digit d is the byte 48 + d
 unfoldable pub decimalWithin : ℕ → ℕ → List ℕ
@@ -32,7 +31,7 @@ decimal n = decimalWithin (suc n) n
 
 -- numbers in decimal, with a comma before each
 unfoldable pub commaEach : List ℕ → List ℕ
-unfolding ascii decimal
+unfolding decimal
 commaEach [] = []
 commaEach (n ∷ ns) = ascii "," ++ decimal n ++ commaEach ns
 
@@ -44,42 +43,38 @@ commaList (n ∷ ns) = decimal n ++ commaEach ns
 
 -- a line `key=value`, "ended by byte 10"
 unfoldable pub line : List ℕ → List ℕ → List ℕ
-unfolding ascii
 line key value = key ++ ascii "=" ++ value ++ ascii "\n"
 
 -- "The lines give the record's length, the number of pieces, their ends, the strict ends, the longest piece's length, its first place, and the
 -- counts of bands 1 to 13."
-unfoldable pub sevenLines : ℕ → List ℕ → List ℕ → Summary → List ℕ
-unfolding ascii decimal commaList line
-sevenLines n ends strict summary =
+abbrev pub linesOf : ℕ → List ℕ → List ℕ → Summary → List (List ℕ)
+linesOf n ends strict summary =
     line (ascii "length") (decimal n)
-    ++ line (ascii "pieces") (decimal (summary .count))
-    ++ line (ascii "ends") (commaList ends)
-    ++ line (ascii "strict") (commaList strict)
-    ++ line (ascii "longest") (decimal (summary .longest))
-    ++ line (ascii "from") (decimal (summary .from))
-    ++ line (ascii "bands") (commaList (summary .bands))
+    ∷ line (ascii "pieces") (decimal (summary .count))
+    ∷ line (ascii "ends") (commaList ends)
+    ∷ line (ascii "strict") (commaList strict)
+    ∷ line (ascii "longest") (decimal (summary .longest))
+    ∷ line (ascii "from") (decimal (summary .from))
+    ∷ line (ascii "bands") (commaList (summary .bands))
+    ∷ []
+
+unfoldable pub sevenLines : ℕ → List ℕ → List ℕ → Summary → List ℕ
+unfolding decimal commaList line flatten
+sevenLines n ends strict summary = flatten (linesOf n ends strict summary)
 
 -- "the one line `refused=` and the number"
-unfoldable pub refusedLine : ℕ → List ℕ
-unfolding ascii decimal line
-refusedLine e = line (ascii "refused") (decimal e)
-
--- the lines for a refusal's number, 0 for none
-unfoldable pub linesAs : ℕ → List ℕ → List ℕ
-unfolding sevenLines refusedLine icflEnds cflInEnds summaryAs
-linesAs zero w = sevenLines (length w) (icflEnds w) (cflInEnds w) (summaryAs 0 (icflEnds w))
-linesAs (suc e) w = refusedLine (suc e)
+abbrev pub refusedLine : ℕ → List ℕ
+refusedLine number = line (ascii "refused") (decimal number)
 
 -- the listing of a record
 unfoldable pub listingOf : List ℕ → List ℕ
-unfolding linesAs recordRefusal
-listingOf w = linesAs (recordRefusal w) w
+unfolding decimal line sevenLines icflEnds cflInEnds summaryOf tried
+listingOf w = sevenLines (length w) (icflEnds w) (cflInEnds w) (summaryOf (icflEnds w)) unless recordLines w then refusedLine
 
 -- what the call answers and leaves in its buffers: the listing's length, the listing at the front of out, and the others as the two cuts leave them
 pub record Listed (w work ends strict out : List ℕ) (r : ℕ) (work′ ends′ strict′ out′ : List ℕ) : Type 0 where
   pub size : r ≡ length (listingOf w)
-  pub text : out′ ≡ listingOf w ++ drop (length (listingOf w)) out
-  pub worked : work′ ≡ workAfter (recordRefusal w) (3 * length w) work
-  pub pieces : ends′ ≡ writtenAs (recordRefusal w) (icflEnds w) ends
-  pub stricts : strict′ ≡ writtenAs (recordRefusal w) (cflInEnds w) strict
+  pub text : out′ ≡ written (listingOf w) out
+  pub worked : work′ ≡ cleared (3 * length w) work unless recordLines w then (λ number. work)
+  pub pieces : ends′ ≡ written (icflEnds w) ends unless recordLines w then (λ number. ends)
+  pub stricts : strict′ ≡ written (cflInEnds w) strict unless recordLines w then (λ number. strict)

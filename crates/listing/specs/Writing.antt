@@ -1,38 +1,51 @@
 -- What the functions that write text ask and promise. No call's promise cites this file.
 use mathlib.Core.Path.{_≡_}
-use mathlib.Core.List.{List}
-use Prim.Native.Nat.{ℕ, _+_, _≤_}
+use mathlib.Core.List.{List, [], _∷_}
+use Prim.Native.Nat.{ℕ, _+_, _*_, _≤_}
 use lib.ListN.{length}
 use lib.Seq.{sets}
+use Rattle.words.specs.Words.{mostLetters}
 use Rattle.words.specs.Factorizations.{icflEnds, cflInEnds}
-use Rattle.checks.specs.Refusals.{recordRefusal}
+use Rattle.checks.specs.Lines.{tried, recordLines}
+use Rattle.checks.specs.declared.Checked.the-variants.{Passed}
+use Rattle.checks.specs.declared.Counted.{Counted}
 use Rattle.reading.specs.declared.summary.Summary.{Summary}
-use Rattle.listing.specs.Listing.{sevenLines}
+use Rattle.listing.specs.Listing.{linesOf}
 
 -- vs fits into out from entry at on
-pub record Fits (at : ℕ) (vs out : List ℕ) : Type 0 where
+pub record FitsAt (at : ℕ) (vs out : List ℕ) : Type 0 where
   pub inside : at + length vs ≤ length out
 
 -- vs stands in out from entry at on, and r is the entry after it
-pub record Wrote (at : ℕ) (vs out : List ℕ) (r : ℕ) (out′ : List ℕ) : Type 0 where
+pub record WroteAt (at : ℕ) (vs out : List ℕ) (r : ℕ) (out′ : List ℕ) : Type 0 where
   pub place : r ≡ at + length vs
   pub content : out′ ≡ sets out at vs
 
+-- how long texts are together
+abbrev pub total : List (List ℕ) → ℕ
+total [] = 0
+total (text ∷ texts) = length text + total texts
+
 -- what the seven lines need
 pub record Printable (n : ℕ) (ends strict : List ℕ) (summary : Summary) (out : List ℕ) : Type 0 where
-  pub fits : Fits 0 (sevenLines n ends strict summary) out
+  pub room : total (linesOf n ends strict summary) ≤ length out
   pub thirteen : 13 ≡ length (summary .bands)
 
 -- the ends of both cuts of an accepted record, and room for its listing
 pub record CutLists (w ends strict out : List ℕ) : Type 0 where
-  pub accepted : recordRefusal w ≡ 0
+  pub accepted : tried (recordLines w) ≡ Passed
   pub pieces : ends ≡ icflEnds w
   pub stricts : strict ≡ cflInEnds w
-  pub writing : 41216 ≤ length out
+  pub writing : 10 * mostLetters + 256 ≤ length out
 
 -- buffers with room for every record: three entries a letter, one end a letter, and for the listing five bytes an end of each cut and 256 for all else
-pub record Roomy (work ends strict out : List ℕ) : Type 0 where
-  pub working : 12288 ≤ length work
-  pub cutting : 4096 ≤ length ends
-  pub strictCutting : 4096 ≤ length strict
-  pub writing : 41216 ≤ length out
+pub record ListingRoom (work ends strict out : List ℕ) : Type 0 where
+  pub working : 3 * mostLetters ≤ length work
+  pub cutting : mostLetters ≤ length ends
+  pub strictCutting : mostLetters ≤ length strict
+  pub writing : 10 * mostLetters + 256 ≤ length out
+
+-- the number of entries that an answer tells of, 0 beside a refusal
+abbrev pub entriesOf : Counted → ℕ
+entriesOf (Counted.Count n) = n
+entriesOf (Counted.Refused number) = 0

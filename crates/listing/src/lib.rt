@@ -1,10 +1,12 @@
 //! Paper 01's listing of a record, written into a lent buffer.
 mod text;
 
+use checks::Checked;
 use checks::Counted;
 use checks::MOST;
+ghost use mathlib.Core.Path.{_≡_};
 ghost use Rattle.listing.specs.Listing.{listingOf, Listed};
-ghost use Rattle.listing.specs.Writing.{Wrote, CutLists, Roomy};
+ghost use Rattle.listing.specs.Writing.{WroteAt, CutLists, ListingRoom, entriesOf};
 
 /// The entries of a work buffer that every record can be cut in.
 pub const WORK: usize = 3 * MOST;
@@ -15,13 +17,23 @@ pub const LISTING: usize = 10 * MOST + 256;
 // The listing of a record that was cut.
 fn write_result(word: &[u8], ends: &[u16], strict: &[u16], out: &mut [u8]) -> usize
     requires { ⌜ CutLists (now word) (now ends) (now strict) (now out) ⌝ }
-    ensures { λ r. ⌜ Wrote 0 (listingOf (now (word .entry))) (now (out .entry)) r (now (out .exit)) ⌝ }
+    ensures { λ r. ⌜ WroteAt 0 (listingOf (now (word .entry))) (now (out .entry)) r (now (out .exit)) ⌝ }
 {
     let summary = reading::summarize(word, ends);
     text::write_lines(word.len() as u16, ends, strict, summary, out)
 }
 
-// The listing, in buffers that have room for every record.
+// How many entries a cut wrote; 0 beside a refusal.
+fn entries_of(cut: Counted) -> usize
+    ensures { λ r. ⌜ r ≡ entriesOf cut ⌝ }
+{
+    match cut {
+        Counted::Count(entries) => entries,
+        Counted::Refused(_) => 0,
+    }
+}
+
+// The listing, in buffers that have room for every record: neither cut refuses one that was accepted.
 fn list_word(
     word: &[u8],
     work: &mut [u16],
@@ -29,26 +41,17 @@ fn list_word(
     strict: &mut [u16],
     out: &mut [u8],
 ) -> usize
-    requires { ⌜ Roomy (now work) (now ends) (now strict) (now out) ⌝ }
+    requires { ⌜ ListingRoom (now work) (now ends) (now strict) (now out) ⌝ }
     ensures { λ r. ⌜ Listed (now (word .entry)) (now (work .entry)) (now (ends .entry)) (now (strict .entry)) (now (out .entry)) r
         (now (work .exit)) (now (ends .exit)) (now (strict .exit)) (now (out .exit)) ⌝ }
 {
-    let cut = icfl::icfl(word, work, ends);
-    match cut {
-        Counted::Refused(number) => text::write_refusal(number, out),
-        Counted::Count(pieces) => {
-            let strict_cut = cfl::cfl_in(word, strict);
-            match strict_cut {
-                Counted::Refused(number) => text::write_refusal(number, out),
-                Counted::Count(stricts) => write_result(
-                    word,
-                    &ends[..pieces],
-                    &strict[..stricts],
-                    out,
-                ),
-            }
-        }
-    }
+    let admitted = checks::check_record(word);
+    let Checked::Passed = admitted else {
+        return text::write_refusal(admitted.number(), out);
+    };
+    let pieces = entries_of(icfl::icfl(word, work, ends));
+    let stricts = entries_of(cfl::cfl_in(word, strict));
+    write_result(word, &ends[..pieces], &strict[..stricts], out)
 }
 
 /// Writes the listing of `word` to the front of `out` and answers its length: seven lines, or the one line of refusal 1 or 2. The buffers have room for

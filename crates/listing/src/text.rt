@@ -3,12 +3,12 @@ use reading::Summary;
 ghost use mathlib.Core.Path.{_≡_};
 ghost use lib.ListN.{length};
 ghost use Rattle.listing.specs.Listing.{decimal, commaList, line, sevenLines, refusedLine};
-ghost use Rattle.listing.specs.Writing.{Fits, Wrote, Printable};
+ghost use Rattle.listing.specs.Writing.{FitsAt, WroteAt, Printable};
 
 // The bytes as they are.
 fn write_bytes(bytes: &[u8], out: &mut [u8], at: usize) -> usize
-    requires { ⌜ Fits at (now bytes) (now out) ⌝ }
-    ensures { λ r. ⌜ Wrote at (now (bytes .entry)) (now (out .entry)) r (now (out .exit)) ⌝ }
+    requires { ⌜ FitsAt at (now bytes) (now out) ⌝ }
+    ensures { λ r. ⌜ WroteAt at (now (bytes .entry)) (now (out .entry)) r (now (out .exit)) ⌝ }
 {
     let mut i: usize = 0;
     while i < bytes.len() {
@@ -33,24 +33,24 @@ fn digit_count(number: u16) -> usize
 
 // The number in decimal, from its last digit to its first.
 fn write_decimal(number: u16, out: &mut [u8], at: usize) -> usize
-    requires { ⌜ Fits at (decimal number) (now out) ⌝ }
-    ensures { λ r. ⌜ Wrote at (decimal number) (now (out .entry)) r (now (out .exit)) ⌝ }
+    requires { ⌜ FitsAt at (decimal number) (now out) ⌝ }
+    ensures { λ r. ⌜ WroteAt at (decimal number) (now (out .entry)) r (now (out .exit)) ⌝ }
 {
-    let end = at + digit_count(number);
-    let mut place = end;
+    let count = digit_count(number);
+    let mut left = count;
     let mut rest = number;
-    while at < place {
-        place -= 1;
-        out[place] = b'0' + (rest % 10) as u8;
+    while 0 < left {
+        left -= 1;
+        out[at + left] = b'0' + (rest % 10) as u8;
         rest /= 10;
     }
-    end
+    at + count
 }
 
 // The numbers in decimal, with commas between them.
 fn write_list(numbers: &[u16], out: &mut [u8], at: usize) -> usize
-    requires { ⌜ Fits at (commaList (now numbers)) (now out) ⌝ }
-    ensures { λ r. ⌜ Wrote at (commaList (now (numbers .entry))) (now (out .entry)) r (now (out .exit)) ⌝ }
+    requires { ⌜ FitsAt at (commaList (now numbers)) (now out) ⌝ }
+    ensures { λ r. ⌜ WroteAt at (commaList (now (numbers .entry))) (now (out .entry)) r (now (out .exit)) ⌝ }
 {
     if numbers.len() == 0 {
         return at;
@@ -65,28 +65,24 @@ fn write_list(numbers: &[u16], out: &mut [u8], at: usize) -> usize
     place
 }
 
-// A line whose value is a number.
-fn write_number_line(key: &[u8], number: u16, out: &mut [u8], at: usize) -> usize
-    requires { ⌜ Fits at (line (now key) (decimal number)) (now out) ⌝ }
-    ensures { λ r. ⌜ Wrote at (line (now (key .entry)) (decimal number)) (now (out .entry)) r (now (out .exit)) ⌝ }
-{
-    let equals = write_bytes(key, out, at);
-    out[equals] = b'=';
-    let end = write_decimal(number, out, equals + 1);
-    out[end] = b'\n';
-    end + 1
-}
-
 // A line whose value is a list of numbers.
 fn write_list_line(key: &[u8], numbers: &[u16], out: &mut [u8], at: usize) -> usize
-    requires { ⌜ Fits at (line (now key) (commaList (now numbers))) (now out) ⌝ }
-    ensures { λ r. ⌜ Wrote at (line (now (key .entry)) (commaList (now (numbers .entry)))) (now (out .entry)) r (now (out .exit)) ⌝ }
+    requires { ⌜ FitsAt at (line (now key) (commaList (now numbers))) (now out) ⌝ }
+    ensures { λ r. ⌜ WroteAt at (line (now (key .entry)) (commaList (now (numbers .entry)))) (now (out .entry)) r (now (out .exit)) ⌝ }
 {
     let equals = write_bytes(key, out, at);
     out[equals] = b'=';
     let end = write_list(numbers, out, equals + 1);
     out[end] = b'\n';
     end + 1
+}
+
+// A line whose value is a number.
+fn write_number_line(key: &[u8], number: u16, out: &mut [u8], at: usize) -> usize
+    requires { ⌜ FitsAt at (line (now key) (decimal number)) (now out) ⌝ }
+    ensures { λ r. ⌜ WroteAt at (line (now (key .entry)) (decimal number)) (now (out .entry)) r (now (out .exit)) ⌝ }
+{
+    write_list_line(key, &[number], out, at)
 }
 
 // The seven lines of a record that was accepted.
@@ -98,7 +94,7 @@ pub fn write_lines(
     out: &mut [u8],
 ) -> usize
     requires { ⌜ Printable length (now ends) (now strict) summary (now out) ⌝ }
-    ensures { λ r. ⌜ Wrote 0 (sevenLines length (now (ends .entry)) (now (strict .entry)) summary) (now (out .entry)) r (now (out .exit)) ⌝ }
+    ensures { λ r. ⌜ WroteAt 0 (sevenLines length (now (ends .entry)) (now (strict .entry)) summary) (now (out .entry)) r (now (out .exit)) ⌝ }
 {
     let bands = summary.bands;
     let pieces_at = write_number_line(b"length", length, out, 0);
@@ -112,8 +108,8 @@ pub fn write_lines(
 
 // The one line of a record that was refused.
 pub fn write_refusal(number: u8, out: &mut [u8]) -> usize
-    requires { ⌜ Fits 0 (refusedLine number) (now out) ⌝ }
-    ensures { λ r. ⌜ Wrote 0 (refusedLine number) (now (out .entry)) r (now (out .exit)) ⌝ }
+    requires { ⌜ FitsAt 0 (refusedLine number) (now out) ⌝ }
+    ensures { λ r. ⌜ WroteAt 0 (refusedLine number) (now (out .entry)) r (now (out .exit)) ⌝ }
 {
     write_number_line(b"refused", number as u16, out, 0)
 }

@@ -35,13 +35,4 @@ returns c = tt
 pub main-spec : {M : Type 1} → statement M
 main-spec =
     tie.close
-    (tie.spec
-    Inv-loop
-    μ-loop
-    arg-count-requires
-    loop-holds
-    list-file-requires
-    add-argument
-    loop-less
-    loop-again
-    returns)
+    (tie.spec Inv-loop μ-loop arg-count-requires loop-holds list-file-requires add-argument loop-less loop-again returns)

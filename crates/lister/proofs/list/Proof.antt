@@ -39,14 +39,5 @@ returns c = search needs
 pub list-spec : {M : Type 1} → statement M
 list-spec =
     tie.close
-    (tie.spec
-    slice-aggregate-read-full
-    read-full-requires
-    skip-rest-requires
-    array-share-prefix-word
-    slice-aggregate-write-listing
-    write-listing-requires
-    array-share-prefix-out
-    slice-aggregate-write-all
-    write-all-requires
-    returns)
+    (tie.spec slice-aggregate-read-full read-full-requires skip-rest-requires array-share-prefix-word slice-aggregate-write-listing
+    write-listing-requires array-share-prefix-out slice-aggregate-write-all write-all-requires returns)

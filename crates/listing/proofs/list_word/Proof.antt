@@ -1,77 +1,80 @@
--- The piece cut is refused only by the record, and then so is the strict cut; an accepted record is listed by its two lists of ends.
+-- A record is refused by its number alone; of one that was accepted the ends of both cuts are listed.
 use borrow.Author.Needs.{needs}
 use mathlib.Core.Path.{sym}
 use lib.Seq.{length-take-le}
-use Rattle.listing.proofs.Cases.{refused-fits, refused-listed}
-use Rattle.listing.proofs.Cases.{BothCut, both-cut, not-refused, count-inside, strict-inside, cut-lists, result-listed}
+use Rattle.checks.proofs.LineLaws.{passed}
+use Rattle.listing.proofs.Results.{refused-fits, refused-listed, BothCut, both-cut}
 use Rattle.listing.proofs.list_word.Statement.{statement}
 use Rattle.listing.proofs.list_word.Tie as tie
 
--- after both cuts
-both-at : (c : tie.After-cfl-in)
-    → (let count = c .before .before .before in
-    let cut = count .before .before .before .before .before .before in
-    let a = cut .before .before .before .before .before .before .before .before .args in
-    BothCut (a .word .now) (a .work .now) (a .ends .now) (a .strict .now) (a .out .now) (count .cut2 .given .0 .0) (c .cfl-in .result)
-    (cut .icfl .last .1 .0) (cut .icfl .last .1 .1 .0) (c .cfl-in .last .1 .0))
+-- the place after the piece cut, and the call's start, from later places
+abbrev at-cut : tie.After-entries-of2 → tie.After-icfl
+at-cut c = c .before .before .before .before .before .before .before .before .before .before
+
+abbrev start : tie.After-icfl → tie.Start
+start c = c .before .before .before .before .before .before .before .before .before .before .before
+
+both-at : (c : tie.After-entries-of2)
+    → (let cut = at-cut c .icfl in
+    let a = start (at-cut c) .args in
+    BothCut (a .word .now) (a .work .now) (a .ends .now) (a .strict .now) (a .out .now) (c .before .before .before .before .before .entries-of .result)
+    (c .entries-of2 .result) (cut .last .1 .0) (cut .last .1 .1 .0) (c .before .before .before .cfl-in .last .1 .0))
 both-at c =
-    let count = c .before .before .before in
-    let cut = count .before .before .before .before .before .before in
-    both-cut _ _ _ _ _ (cut .before .before .before .before .before .before .before .before .pre) _ _ _ (cut .icfl .ensures) _ (count .cut2 .given .1)
-    _ _ (c .cfl-in .ensures)
+    let at-match = at-cut c .before .before .before .before in
+    both-cut (start (at-cut c) .pre) (passed _ (at-match .before .check-record .ensures) (at-match .match .keys1)) (at-cut c .icfl .ensures)
+    (c .before .before .before .before .before .entries-of .ensures) (c .before .before .before .cfl-in .ensures) (c .entries-of2 .ensures)
+
+check-record-requires : tie.Need-check-record-requires
+check-record-requires c κs = search needs
+
+enum-told : tie.Need-enum-told
+enum-told c = search needs
+
+enum-told-2 : tie.Need-enum-told-2
+enum-told-2 c = search needs
+
+number-requires : tie.Need-number-requires
+number-requires c κs = search needs
+
+write-refusal-requires : tie.Need-write-refusal-requires
+write-refusal-requires c κs = refused-fits (c .before .before .before .before .before .before .before .before .before .before .pre) (search needs)
+
+same-length : tie.Need-same-length
+same-length c = search needs
+
+returns : tie.Need-returns
+returns c =
+    let at-number = c .before .before .before .before in
+    let at-match = at-number .before .before in
+    refused-listed (at-match .before .before .before .before .before .before .before .pre) (search needs) (at-match .before .check-record .ensures)
+    (at-match .match .keys2) (at-number .number .ensures) (c .before .before .write-refusal .ensures)
 
 icfl-requires : tie.Need-icfl-requires
 icfl-requires c κs = search needs
 
-enum-known-cut : tie.Need-enum-known-cut
-enum-known-cut c = search needs
-
-write-refusal-requires : tie.Need-write-refusal-requires
-write-refusal-requires c κs =
-    let told = c .before .before in
-    let cut = told .before .before .before .before .before .before in
-    refused-fits _ _ _ _ _ (cut .before .before .before .before .before .before .before .before .pre) _ _ _ (cut .icfl .ensures) _ (told .cut .given .1)
-
-enum-known-cut-2 : tie.Need-enum-known-cut-2
-enum-known-cut-2 c = search needs
+entries-of-requires : tie.Need-entries-of-requires
+entries-of-requires c κs = search needs
 
 cfl-in-requires : tie.Need-cfl-in-requires
 cfl-in-requires c κs = search needs
 
-enum-known-strict-cut : tie.Need-enum-known-strict-cut
-enum-known-strict-cut c = search needs
-
-write-refusal-requires-2 : tie.Need-write-refusal-requires-2
-write-refusal-requires-2 c κs =
-    let told = c .before .before in
-    absurd (not-refused (both-at (told .before .before .before .before)) _ (told .strict-cut .given .1))
-
-enum-known-strict-cut-2 : tie.Need-enum-known-strict-cut-2
-enum-known-strict-cut-2 c = search needs
+entries-of-requires-2 : tie.Need-entries-of-requires-2
+entries-of-requires-2 c κs = search needs
 
 slice-reshare-prefix-write-result : tie.Need-slice-reshare-prefix-write-result
-slice-reshare-prefix-write-result c = count-inside (both-at (c .before .before .before .before .before))
+slice-reshare-prefix-write-result c = both-at c .pieces-inside
 
 slice-aggregate-write-result : tie.Need-slice-aggregate-write-result
-slice-aggregate-write-result c = sym (length-take-le _ _ (count-inside (both-at (c .before .before .before .before .before .before))))
+slice-aggregate-write-result c = sym (length-take-le _ _ (both-at (c .before) .pieces-inside))
 
 slice-reshare-prefix-write-result-2 : tie.Need-slice-reshare-prefix-write-result-2
-slice-reshare-prefix-write-result-2 c =
-    let told = c .before .before in
-    strict-inside (both-at (told .before .before .before .before)) _ (told .strict-cut2 .given .1)
+slice-reshare-prefix-write-result-2 c = both-at (c .before) .stricts-inside
 
 slice-aggregate-write-result-2 : tie.Need-slice-aggregate-write-result-2
-slice-aggregate-write-result-2 c =
-    let told = c .before .before .before in
-    sym (length-take-le _ _ (strict-inside (both-at (told .before .before .before .before)) _ (told .strict-cut2 .given .1)))
+slice-aggregate-write-result-2 c = sym (length-take-le _ _ (both-at (c .before .before) .stricts-inside))
 
 write-result-requires : tie.Need-write-result-requires
-write-result-requires c κs =
-    let told = c .before .before .before .before in
-    cut-lists (both-at (told .before .before .before .before)) _ (told .strict-cut2 .given .1)
-
-same-length : tie.Need-same-length
-same-length c = search needs
+write-result-requires c κs = both-at (c .before .before .before) .lists
 
 same-length-2 : tie.Need-same-length-2
 same-length-2 c = search needs
@@ -79,75 +82,19 @@ same-length-2 c = search needs
 same-length-3 : tie.Need-same-length-3
 same-length-3 c = search needs
 
-returns : tie.Need-returns
-returns c =
-    let told = c .before .before .before .before .before in
-    let cut = told .before .before .before .before .before .before in
-    refused-listed _ _ _ _ _ (cut .before .before .before .before .before .before .before .before .pre) _ _ _ (cut .icfl .ensures) _ (told .cut .given .1)
-    (c .before .before .write-refusal .ensures)
-
 same-length-4 : tie.Need-same-length-4
 same-length-4 c = search needs
 
 same-length-5 : tie.Need-same-length-5
 same-length-5 c = search needs
 
-same-length-6 : tie.Need-same-length-6
-same-length-6 c = search needs
-
-same-length-7 : tie.Need-same-length-7
-same-length-7 c = search needs
-
 returns-2 : tie.Need-returns-2
-returns-2 c =
-    let told = c .before .before .before .before .before in
-    absurd (not-refused (both-at (told .before .before .before .before)) _ (told .strict-cut .given .1))
-
-same-length-8 : tie.Need-same-length-8
-same-length-8 c = search needs
-
-same-length-9 : tie.Need-same-length-9
-same-length-9 c = search needs
-
-same-length-10 : tie.Need-same-length-10
-same-length-10 c = search needs
-
-same-length-11 : tie.Need-same-length-11
-same-length-11 c = search needs
-
-returns-3 : tie.Need-returns-3
-returns-3 c =
-    let told = c .before .before .before .before .before .before .before in
-    result-listed (both-at (told .before .before .before .before)) _ (told .strict-cut2 .given .1) (c .before .before .write-result .ensures)
+returns-2 c = both-at (c .before .before .before .before .before .before) .listed _ _ (c .before .before .write-result .ensures)
 
 pub list-word-spec : {M : Type 1} → statement M
 list-word-spec =
     tie.close
-    (tie.spec
-    icfl-requires
-    enum-known-cut
-    write-refusal-requires
-    enum-known-cut-2
-    cfl-in-requires
-    enum-known-strict-cut
-    write-refusal-requires-2
-    enum-known-strict-cut-2
-    slice-reshare-prefix-write-result
-    slice-aggregate-write-result
-    slice-reshare-prefix-write-result-2
-    slice-aggregate-write-result-2
-    write-result-requires
-    same-length
-    same-length-2
-    same-length-3
-    returns
-    same-length-4
-    same-length-5
-    same-length-6
-    same-length-7
-    returns-2
-    same-length-8
-    same-length-9
-    same-length-10
-    same-length-11
-    returns-3)
+    (tie.spec check-record-requires enum-told enum-told-2 number-requires write-refusal-requires same-length returns icfl-requires
+    entries-of-requires cfl-in-requires entries-of-requires-2 slice-reshare-prefix-write-result slice-aggregate-write-result
+    slice-reshare-prefix-write-result-2 slice-aggregate-write-result-2 write-result-requires same-length-2 same-length-3 same-length-4
+    same-length-5 returns-2)

@@ -1,8 +1,8 @@
 -- The summary of the piece cut's ends is accepted, so the lines are the listing's.
 use borrow.Author.Needs.{needs}
 use native.Mathlib.Omega.{arith}
-use Rattle.listing.proofs.Results.{printable, result-wrote}
-use Rattle.checks.proofs.RefusalLaws.{record-accepted}
+use Rattle.listing.proofs.Results.{printable, lines-are}
+use Rattle.checks.proofs.RecordLaws.{accepted}
 use Rattle.listing.proofs.write_result.Statement.{statement}
 use Rattle.listing.proofs.write_result.Tie as tie
 
@@ -10,7 +10,7 @@ summarize-requires : tie.Need-summarize-requires
 summarize-requires c κs = search needs
 
 cast-write-lines : tie.Need-cast-write-lines
-cast-write-lines c = omega (arith, record-accepted _ (c .before .before .before .before .before .pre .accepted) .short)
+cast-write-lines c = let start = c .before .before .before .before .before in omega (arith, accepted (start .args .word .now) (start .pre .accepted) .short)
 
 write-lines-requires : tie.Need-write-lines-requires
 write-lines-requires c κs = printable _ _ _ _ (c .before .before .before .before .before .before .pre) _ (c .before .summarize .ensures)
@@ -21,7 +21,7 @@ same-length c = search needs
 returns : tie.Need-returns
 returns c =
     let summed = c .before .before .before .before in
-    result-wrote _ _ _ _ (summed .before .before .before .before .before .pre) _ (summed .summarize .ensures) (c .before .before .write-lines .ensures)
+    rw (← lines-are _ _ _ _ (summed .before .before .before .before .before .pre) _ (summed .summarize .ensures)) (c .before .before .write-lines .ensures)
 
 pub write-result-spec : {M : Type 1} → statement M
 write-result-spec =

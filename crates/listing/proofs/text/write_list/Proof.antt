@@ -1,34 +1,30 @@
--- The first number, then a comma and a number in each turn.
+-- The first number, then a comma and a number in each turn; the numbers that are left have room.
 use borrow.Author.Needs.{needs}
-use native.Mathlib.Omega.{arith}
-use lib.ListN.{length}
-use Prim.Native.Nat.{_+_, _-_, _<_}
 use mathlib.Core.Path.{_∙_}
-use Rattle.listing.proofs.Texts.{Separating, separate-start, separate-room, separate-step, separate-end}
-use Rattle.listing.proofs.Texts.{list-none, first-room, others-room, list-wrote}
-use Rattle.listing.proofs.Stores.{wrote-long}
-use Rattle.listing.specs.Writing.{Fits}
-use Rattle.listing.specs.Listing.{decimal}
-use lib.ListN.{getD, set}
+use mathlib.Core.List.{List}
+use Prim.Native.Nat.{ℕ, suc, _+_, _-_, _≤_}
+use native.Mathlib.Omega.{arith}
+use lib.ListN.{length, drop, getD, length-set}
+use Rattle.listing.specs.Listing.{decimal, commaEach}
+use Rattle.listing.proofs.Stores.{wrote-then, wrote-long, Left, left-all, left-byte, left-text, left-none}
+use Rattle.listing.proofs.Texts.{list-none, comma-first, first-length, comma-at, comma-length, comma-end}
 use Rattle.listing.proofs.text.write_list.Statement.{statement}
 use Rattle.listing.proofs.text.write_list.Tie as tie
 
 abbrev Inv-loop : tie.InvT-loop
-Inv-loop numbers out₀ at place₀ i₀ out place i = Separating numbers out₀ out place₀ place i
+Inv-loop numbers out₀ at place₀ i₀ out place i =
+    Left place₀ (commaEach (drop 1 numbers)) out₀ place (commaEach (drop i numbers)) out × (place₀ + length (commaEach (drop 1 numbers)) ≤ length out₀)
 
 abbrev μ-loop : tie.MeasureT-loop
 μ-loop numbers out₀ at place₀ i₀ out place i = length numbers - i
 
--- the comma and the number of a turn have room
+-- the numbers, from a turn; the comma and the number of the turn have room
+abbrev numbers-at : tie.In-loop Inv-loop μ-loop → List ℕ
+numbers-at c = c .before .before .before .before .before .before .before .before .before .before .args .numbers .now
+
 room-at : (c : tie.In-loop Inv-loop μ-loop)
-    → (let at = c .before .loop in
-    let numbers = c .before .before .before .before .before .before .before .before .before .before .args .numbers .now in
-    (at .place < length (at .out)) × Fits (at .place + 1) (decimal (getD numbers (at .i) 0)) (set (at .out) (at .place) 44))
-room-at c =
-    let first = c .before .before .before .before in
-    let start = first .before .before .before .before .before .before in
-    separate-room _ _ _ _ _ _ (c .before .loop .inv) (c .loop-test .taken)
-    (others-room (start .args .numbers .now) _ _ (omega arith) _ _ (first .write-decimal .ensures) (start .pre))
+    → (let at = c .before .loop in at .place + suc (length (decimal (getD (numbers-at c) (at .i) 0))) ≤ length (at .out))
+room-at c = omega (arith, comma-length (numbers-at c) (c .before .loop .i) (c .loop-test .taken))
 
 returns : tie.Need-returns Inv-loop μ-loop
 returns c = list-none _ _ _ (c .if1 .taken)
@@ -37,13 +33,17 @@ shared-slice-read-write-decimal : tie.Need-shared-slice-read-write-decimal Inv-l
 shared-slice-read-write-decimal c = search needs
 
 write-decimal-requires : tie.Need-write-decimal-requires Inv-loop μ-loop
-write-decimal-requires c κs = let start = c .before .before .before .before .before in first-room (start .args .numbers .now) _ _ (omega arith) (start .pre)
+write-decimal-requires c κs =
+    let start = c .before .before .before .before .before in
+    record { inside = omega (arith, first-length (start .args .numbers .now) (omega arith)) }
 
 loop-holds : tie.Need-loop-holds Inv-loop μ-loop
-loop-holds c = separate-start _ _ _ (omega arith)
+loop-holds c =
+    let start = c .before .before .before .before .before .before .before .before in
+    (left-all _ _ _, omega (arith, first-length (start .args .numbers .now) (omega arith)))
 
 slice-write-out : tie.Need-slice-write-out Inv-loop μ-loop
-slice-write-out c = room-at c .0
+slice-write-out c = omega (arith, room-at c)
 
 mul-write-decimal : tie.Need-mul-write-decimal Inv-loop μ-loop
 mul-write-decimal c = search needs
@@ -52,12 +52,10 @@ shared-slice-read-write-decimal-2 : tie.Need-shared-slice-read-write-decimal-2 I
 shared-slice-read-write-decimal-2 c = search needs
 
 add-write-decimal : tie.Need-add-write-decimal Inv-loop μ-loop
-add-write-decimal c =
-    let turn = c .before .before in
-    omega (arith, room-at turn .0, wrote-long (turn .before .loop .inv .wrote), wrote-long (turn .before .before .before .before .write-decimal .ensures))
+add-write-decimal c = omega (arith, room-at (c .before .before))
 
 write-decimal-requires-2 : tie.Need-write-decimal-requires-2 Inv-loop μ-loop
-write-decimal-requires-2 c κs = room-at (c .before .before) .1
+write-decimal-requires-2 c κs = record { inside = rw length-set (omega (arith, room-at (c .before .before))) }
 
 add-i : tie.Need-add-i Inv-loop μ-loop
 add-i c = search needs
@@ -68,34 +66,21 @@ loop-less c = search needs
 loop-again : tie.Need-loop-again Inv-loop μ-loop
 loop-again c =
     let turn = c .before .before .before .before .before in
-    separate-step _ _ _ _ _ _ (turn .before .loop .inv) (turn .loop-test .taken) (c .before .before .write-decimal2 .ensures)
+    let inv = turn .before .loop .inv in
+    (left-text (left-byte (rw (comma-at _ _ (turn .loop-test .taken)) at (inv .0))) (c .before .before .write-decimal2 .ensures), inv .1)
 
 same-length : tie.Need-same-length Inv-loop μ-loop
-same-length c = wrote-long (c .before .loop .inv .wrote) ∙ wrote-long (c .before .before .before .before .write-decimal .ensures)
+same-length c = c .before .loop .inv .0 .long ∙ wrote-long (c .before .before .before .before .write-decimal .ensures)
 
 returns-2 : tie.Need-returns-2 Inv-loop μ-loop
 returns-2 c =
     let first = c .before .before .before .before in
-    list-wrote (first .before .before .before .before .before .before .args .numbers .now) _ _ (omega arith) _ _ (first .write-decimal .ensures)
-    (separate-end _ _ _ _ _ _ (c .before .loop .inv) (c .loop-test .left))
+    let numbers = first .before .before .before .before .before .before .args .numbers .now in
+    rw (comma-first numbers (omega arith))
+    (wrote-then (first .write-decimal .ensures) (left-none (rw (comma-end numbers (c .before .loop .i) (c .loop-test .left)) at (c .before .loop .inv .0))))
 
 pub write-list-spec : {M : Type 1} → statement M
 write-list-spec =
     tie.close
-    (tie.spec
-    Inv-loop
-    μ-loop
-    returns
-    shared-slice-read-write-decimal
-    write-decimal-requires
-    loop-holds
-    slice-write-out
-    mul-write-decimal
-    shared-slice-read-write-decimal-2
-    add-write-decimal
-    write-decimal-requires-2
-    add-i
-    loop-less
-    loop-again
-    same-length
-    returns-2)
+    (tie.spec Inv-loop μ-loop returns shared-slice-read-write-decimal write-decimal-requires loop-holds slice-write-out mul-write-decimal
+    shared-slice-read-write-decimal-2 add-write-decimal write-decimal-requires-2 add-i loop-less loop-again same-length returns-2)

@@ -1,64 +1,47 @@
 -- Where the line has room, so have its parts; they are written one after the other.
 use borrow.Author.Needs.{needs}
 use native.Mathlib.Omega.{arith}
-use Rattle.listing.proofs.Lines.{key-room, equals-room, value-room, end-inside, end-room, line-wrote}
+use Prim.Native.Nat.{_+_, _≤_}
+use lib.ListN.{length, length-set}
+use Rattle.listing.specs.Listing.{commaList}
 use Rattle.listing.proofs.Stores.{wrote-long}
+use Rattle.listing.proofs.Texts.{line-length, line-wrote}
 use Rattle.listing.proofs.text.write_list_line.Statement.{statement}
 use Rattle.listing.proofs.text.write_list_line.Tie as tie
 
+room-at : (c : tie.Start) → (let a = c .args in a .at + (length (a .key .now) + length (commaList (a .numbers .now)) + 2) ≤ length (a .out .now))
+room-at c = omega (arith, c .pre, line-length (c .args .key .now) (commaList (c .args .numbers .now)))
+
+abbrev start : tie.After-write-bytes → tie.Start
+start c = c .before .before .before .before .before
+
 write-bytes-requires : tie.Need-write-bytes-requires
-write-bytes-requires c κs = key-room _ _ _ _ (c .before .before .before .before .pre)
+write-bytes-requires c κs = record { inside = omega (arith, room-at (c .before .before .before .before)) }
 
 slice-write-out : tie.Need-slice-write-out
-slice-write-out c =
-    let key = c .before .before in
-    equals-room _ _ _ _ (key .before .before .before .before .before .pre) _ _ (key .write-bytes .ensures)
+slice-write-out c = omega (arith, room-at (start (c .before .before)))
 
 add-write-list : tie.Need-add-write-list
 add-write-list c = search needs
 
 write-list-requires : tie.Need-write-list-requires
-write-list-requires c κs =
-    let key = c .before .before .before in
-    value-room _ _ _ _ (key .before .before .before .before .before .pre) _ _ (key .write-bytes .ensures)
+write-list-requires c κs = record { inside = rw length-set (omega (arith, room-at (start (c .before .before .before)))) }
 
 slice-write-out-2 : tie.Need-slice-write-out-2
 slice-write-out-2 c =
     let value = c .before .before in
-    let key = value .before .before .before .before in
-    let start = key .before .before .before .before .before in
-    end-room _ _ _ _ (start .pre) _ _ (key .write-bytes .ensures) _ _ (value .write-list .ensures)
+    omega (arith, room-at (start (value .before .before .before .before)), simp length-set at (value .write-list .kept .1 .0))
 
 add-result : tie.Need-add-result
-add-result c =
-    let value = c .before .before in
-    let key = value .before .before .before .before in
-    let start = key .before .before .before .before .before in
-    omega (arith, end-inside _ _ _ _ (start .pre) _ _ (key .write-bytes .ensures) _ _ (value .write-list .ensures))
-
-same-length : tie.Need-same-length
-same-length c =
-    let value = c .before .before in
-    let key = value .before .before .before .before in
-    let start = key .before .before .before .before .before in
-    wrote-long (line-wrote _ _ _ _ (start .pre) _ _ (key .write-bytes .ensures) _ _ (value .write-list .ensures))
+add-result c = omega (arith, room-at (start (c .before .before .before .before .before .before)))
 
 returns : tie.Need-returns
-returns c =
-    let value = c .before .before in
-    let key = value .before .before .before .before in
-    let start = key .before .before .before .before .before in
-    line-wrote _ _ _ _ (start .pre) _ _ (key .write-bytes .ensures) _ _ (value .write-list .ensures)
+returns c = line-wrote (c .before .before .before .before .before .before .write-bytes .ensures) (c .before .before .write-list .ensures)
+
+same-length : tie.Need-same-length
+same-length c = wrote-long (returns c)
 
 pub write-list-line-spec : {M : Type 1} → statement M
 write-list-line-spec =
     tie.close
-    (tie.spec
-    write-bytes-requires
-    slice-write-out
-    add-write-list
-    write-list-requires
-    slice-write-out-2
-    add-result
-    same-length
-    returns)
+    (tie.spec write-bytes-requires slice-write-out add-write-list write-list-requires slice-write-out-2 add-result same-length returns)
