@@ -2,7 +2,7 @@
 -- that was accepted (icfl-passes, cfl-in-passes), so the ends of both stand at the fronts of two buffers (both-cut); nor does the summary, so the seven
 -- lines are the listing (lines-are).
 use mathlib.Core.Path.{_≡_, ap, sym, _∙_}
-use mathlib.Core.List.{List}
+use mathlib.Core.List.{List, []}
 use Prim.Native.Nat.{ℕ, _+_, _*_, _≤_, _<_}
 use native.Mathlib.Nat.{zero-add}
 use native.Mathlib.Omega.{arith}
@@ -63,20 +63,20 @@ module _ (w : List ℕ) (e : tried (recordLines w) ≡ Passed) where
   icfl-passes : (work entries : ℕ) → 3 * mostLetters ≤ work → mostLetters ≤ entries → tried (icflLines w work entries) ≡ Passed
   icfl-passes work entries h k =
       let u = unmet (recordLines w) e in
-      let works = le-ltb work (3 * length w) (omega (arith, accepted w e .short)) in
-      let stores = le-ltb entries (length (icflEnds w)) (omega (arith, rises-few (icfl-ends-rise w), accepted w e .short)) in
+      let works = le-ltb work (3 * length w) (omega (arith, accepted w [] e .short)) in
+      let stores = le-ltb entries (length (icflEnds w)) (omega (arith, rises-few (icfl-ends-rise w), accepted w [] e .short)) in
       all-pass (icflLines w work entries) (u .0, (u .1 .0, (works, (stores, search))))
 
   cfl-in-passes : (entries : ℕ) → mostLetters ≤ entries → tried (cflInLines w entries) ≡ Passed
   cfl-in-passes entries k =
       let u = unmet (recordLines w) e in
-      let stores = le-ltb entries (length (cflInEnds w)) (omega (arith, rises-few (cfl-in-ends-rise w), accepted w e .short)) in
+      let stores = le-ltb entries (length (cflInEnds w)) (omega (arith, rises-few (cfl-in-ends-rise w), accepted w [] e .short)) in
       all-pass (cflInLines w entries) (u .0, (u .1 .0, (stores, search)))
 
   summary-passes : tried (summaryLines w (icflEnds w)) ≡ Passed
   summary-passes =
       let u = unmet (recordLines w) e in
-      let ends : EndsOf (length w) (icflEnds w) = record { some = rises-some (icfl-ends-rise w) (accepted w e .nonempty); rises = icfl-ends-rise w } in
+      let ends : EndsOf (length w) (icflEnds w) = record { some = rises-some (icfl-ends-rise w) (accepted w [] e .nonempty); rises = icfl-ends-rise w } in
       all-pass (summaryLines w (icflEnds w)) (u .0, (u .1 .0, (ends-pass (icflEnds w) (length w) ends, search)))
 
   listing-is : listingOf w ≡ sevenLines (length w) (icflEnds w) (cflInEnds w) (summaryOf (icflEnds w))
@@ -85,7 +85,7 @@ module _ (w : List ℕ) (e : tried (recordLines w) ≡ Passed) where
 
   listing-most : length (listingOf w) ≤ 10 * mostLetters + 256
   unfolding sevenLines
-  listing-most = rw (listing-is, total-is (linesOf (length w) (icflEnds w) (cflInEnds w) (summaryOf (icflEnds w)))) (total-most w (accepted w e))
+  listing-most = rw (listing-is, total-is (linesOf (length w) (icflEnds w) (cflInEnds w) (summaryOf (icflEnds w)))) (total-most w (accepted w [] e))
 
 -- the lines that a record's cuts and its summary give
 module _ (w ends strict out : List ℕ) (c : CutLists w ends strict out) (s : Summary) (x : Summarized w ends s) where

@@ -28,9 +28,11 @@ inside-at : (c : tie.After-find-ends) → (let start = c .before .before .before
     (c .find-ends .result .first + c .find-ends .result .count ≤ 3 * mostLetters) × (3 * length (start .args .word .now) ≤ length (c .find-ends .last .1 .0))
     × (c .find-ends .result .first + c .find-ends .result .count ≤ length (c .find-ends .last .1 .0)))
 inside-at c =
-    let room = room-at (c .before .before) in
-    (omega (arith, c .find-ends .ensures .inside, room .short), omega (arith, room .entries, c .find-ends .kept),
-    omega (arith, c .find-ends .ensures .inside, room .entries, c .find-ends .kept))
+    let room = room-at (c .before .before) in (
+      omega (arith, c .find-ends .ensures .inside, room .short),
+      omega (arith, room .entries, c .find-ends .kept),
+      omega (arith, c .find-ends .ensures .inside, room .entries, c .find-ends .kept),
+    )
 
 admit-requires : tie.Need-admit-requires
 admit-requires c κs = search needs

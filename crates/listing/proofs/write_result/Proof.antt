@@ -10,7 +10,7 @@ summarize-requires : tie.Need-summarize-requires
 summarize-requires c κs = search needs
 
 cast-write-lines : tie.Need-cast-write-lines
-cast-write-lines c = let start = c .before .before .before .before .before in omega (arith, accepted (start .args .word .now) (start .pre .accepted) .short)
+cast-write-lines c = let start = c .before .before .before .before .before in omega (arith, accepted (start .args .word .now) _ (start .pre .accepted) .short)
 
 write-lines-requires : tie.Need-write-lines-requires
 write-lines-requires c κs = printable _ _ _ _ (c .before .before .before .before .before .before .pre) _ (c .before .summarize .ensures)
