@@ -95,7 +95,7 @@ module _ (w ends strict out : List ℕ) (c : CutLists w ends strict out) (s : Su
   pub printable : Printable (length w) ends strict s out
   unfolding summaryOf
   printable = record {
-    room = rw (summary-is, c .pieces, c .stricts) (omega (arith, c .writing, total-most w (accepted w (c .accepted))));
+    room = rw (summary-is, c .pieces, c .stricts) (omega (arith, c .writing, total-most w (accepted w [] (c .accepted))));
     thirteen = rw summary-is (sym (bands-length (icflEnds w)));
   }
 
