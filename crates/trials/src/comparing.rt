@@ -1,12 +1,12 @@
-//! One call of the comparison, and random ones.
+//! The comparison, and how far two words agree.
 use super::draw::draw;
-use super::tally;
+use super::numbers::about;
 use compare::Comparison;
 use naive::minus;
 use naive::plus;
 
-/// Whether the comparison answers as the second implementation.
-pub fn comparison_is(word: &[u8], first: usize, end: usize, start: usize, other: usize) -> bool {
+// Whether the comparison answers as the second implementation.
+fn comparison_is(word: &[u8], first: usize, end: usize, start: usize, other: usize) -> bool {
     let answer = compare::compare_suffixes(word, first, end, start, other);
     let refused = naive::range_refusal(word.len(), first, end, start, other);
     match answer {
@@ -15,78 +15,42 @@ pub fn comparison_is(word: &[u8], first: usize, end: usize, start: usize, other:
     }
 }
 
-// Two random starts in a range.
-fn compare_in(word: &[u8], first: usize, end: usize, state: &mut usize, counts: &mut [u64]) {
-    let size = minus(end, first);
-    let start = plus(first, draw(state, size));
-    let other = plus(first, draw(state, size));
-    tally::note(
-        counts,
-        tally::COMPARE,
-        comparison_is(word, first, end, start, other),
-    );
+/// In a range of whole parts at random, with two starts at random.
+pub fn agrees(word: &[u8], ends: &[u16], state: &mut usize) -> bool {
+    let from = draw(state, ends.len());
+    let last = plus(from, draw(state, minus(ends.len(), from)));
+    let first = naive::part_start(ends, from);
+    let end = naive::part_end(ends, last);
+    let start = plus(first, draw(state, minus(end, first)));
+    let other = plus(first, draw(state, minus(end, first)));
+    comparison_is(word, first, end, start, other)
 }
 
-/// Random ranges, two starts in each.
-pub fn compare_some(word: &[u8], times: usize, state: &mut usize, counts: &mut [u64]) {
-    let mut i: usize = 0;
-    while i < times {
-        let first = draw(state, word.len());
-        let end = plus(plus(first, 1), draw(state, minus(word.len(), first)));
-        compare_in(word, first, end, state, counts);
-        i += 1;
-    }
+/// How many cases there are at the boundaries of range and starts.
+pub const RANGES: usize = 1260;
+
+/// Case `code` of them.
+pub fn agrees_at_limits(word: &[u8], code: usize) -> bool {
+    let first = about(0, word.len(), code / 252 % 5);
+    let end = about(first, word.len(), code / 36 % 7);
+    let start = about(first, end, code / 6 % 6 + 2);
+    let other = about(first, end, code % 6 + 2);
+    comparison_is(word, first, end, start, other)
 }
 
-/// Random ranges of whole pieces, two starts in each.
-pub fn compare_pieces(
-    word: &[u8],
-    ends: &[u16],
-    times: usize,
-    state: &mut usize,
-    counts: &mut [u64],
-) {
-    let mut i: usize = 0;
-    while i < times {
-        let from = draw(state, ends.len());
-        let last = plus(from, draw(state, minus(ends.len(), from)));
-        compare_in(
-            word,
-            naive::part_start(ends, from),
-            naive::part_end(ends, last),
-            state,
-            counts,
-        );
-        i += 1;
-    }
-}
-
-// The part of a word from a to b, empty where there is none.
-fn part(word: &[u8], a: usize, b: usize) -> &[u8] {
-    if b < a {
-        return &word[0..0];
-    }
-    if word.len() < b {
-        return &word[0..0];
-    }
-    &word[a..b]
-}
-
-// A random part.
+// A part at random.
 fn random_part<'a>(word: &'a [u8], state: &mut usize) -> &'a [u8] {
-    let a = draw(state, word.len());
-    let b = plus(a, draw(state, plus(minus(word.len(), a), 1)));
-    part(word, a, b)
+    let from = naive::tail(word, draw(state, word.len()));
+    let size = draw(state, plus(from.len(), 1));
+    if from.len() < size {
+        return from;
+    }
+    &from[0..size]
 }
 
-/// How far two random parts agree.
-pub fn common_some(word: &[u8], times: usize, state: &mut usize, counts: &mut [u64]) {
-    let mut i: usize = 0;
-    while i < times {
-        let x = random_part(word, state);
-        let y = random_part(word, state);
-        let same = compare::common_length(x, y) == naive::common(x, y);
-        tally::note(counts, tally::COMMON, same);
-        i += 1;
-    }
+/// How far two parts at random agree.
+pub fn common_agrees(word: &[u8], state: &mut usize) -> bool {
+    let x = random_part(word, state);
+    let y = random_part(word, state);
+    compare::common_length(x, y) == naive::common(x, y)
 }

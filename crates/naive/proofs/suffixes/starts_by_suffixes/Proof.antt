@@ -7,7 +7,7 @@ use Rattle.naive.proofs.suffixes.starts_by_suffixes.Statement.{statemen
 use Rattle.naive.proofs.suffixes.starts_by_suffixes.Tie as tie
 
 abbrev Inv-loop : tie.InvT-loop
-Inv-loop word lengths₀ stack₀ open₀ i₀ lengths stack «open» i = (length lengths ≡ length lengths₀) × (length stack ≡ length stack₀)
+Inv-loop word lengths₀ stack₀ open₀ i₀ lengths stack «open» i = (length lengths ≡ length lengths₀) × (length stack ≡ 4110)
 
 abbrev μ-loop : tie.MeasureT-loop
 μ-loop word lengths₀ stack₀ open₀ i₀ lengths stack «open» i = length word - i
@@ -15,6 +15,6 @@ abbrev μ-loop : tie.MeasureT-loop
 pub starts-by-suffixes-spec : {M : Type 1} → statement M
 starts-by-suffixes-spec =
     tie.close
-    (tie.spec Inv-loop μ-loop (λ c κs. search needs) (λ c. search needs) (λ c κs. search needs) (λ c κs. search needs)
-    (λ c κs. search needs) (λ c. search needs) (λ c. search needs) (λ c. search needs) (λ c. search needs)
-    (λ c. search needs) (λ c. search needs))
+    (tie.spec Inv-loop μ-loop (λ c κs. search needs) (λ c. search needs) (λ c. search needs) (λ c κs. search needs)
+    (λ c. search needs) (λ c κs. search needs) (λ c κs. search needs) (λ c. search needs) (λ c. search needs)
+    (λ c. search needs) (λ c. search needs) (λ c. search needs))
