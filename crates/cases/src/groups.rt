@@ -1,25 +1,22 @@
 //! The groups of records, and the calls that are made on each.
 use super::records::length_at;
-use super::records::long_record;
 use super::records::random_record;
+use super::records::shape_at;
 use naive::Call;
 use naive::ENTRIES;
 use naive::front;
 use naive::plus;
-use trials::buffers::fill;
-use trials::driver::try_cases;
-use trials::shapes::spell;
+use trials::Run;
+use trials::spell;
+use trials::try_cases;
+use trials::write;
 
 /// Records of a kind, with the calls that are made on them.
 pub enum Group {
-    /// The words over 2 letters, the shorter ones first; all calls.
-    TwoLetters,
-    /// The words over 3 letters; all calls.
-    ThreeLetters,
-    /// Pseudo-random records of up to 300 letters; all calls.
-    Random,
-    /// Pseudo-random records of up to 4,096 letters; all calls.
-    RandomLong,
+    /// The words over so many letters, the shorter ones first; all calls.
+    Words { letters: usize },
+    /// Pseudo-random records of up to so many letters; all calls.
+    Random { most: usize },
     /// Eight shapes of 4,095, 4,096 and 4,097 letters; all calls.
     Long,
     /// Eight shapes of each length at the boundaries; the calls that are lent buffers, at the boundaries of the refusals 1 to 4.
@@ -30,129 +27,98 @@ pub enum Group {
     Lists,
 }
 
+// One of eight shapes of a length.
+fn shaped(word: &mut [u8], n: usize, which: usize, run: &mut Run) -> usize {
+    write(word, n, shape_at(which, n), run)
+}
+
 // Writes record i of a group. Answers its length.
-fn write(group: Group, i: usize, word: &mut [u8], state: &mut usize) -> usize {
+fn write_record(group: Group, i: usize, word: &mut [u8], run: &mut Run) -> usize {
     match group {
-        Group::TwoLetters => spell(word, 2, plus(i, 1)),
-        Group::ThreeLetters => spell(word, 3, plus(i, 1)),
-        Group::Random => random_record(word, 300, state),
-        Group::RandomLong => random_record(word, 4096, state),
-        Group::Long => long_record(word, 4095 + i % 3, i / 3, state),
-        Group::Lent => long_record(word, length_at(i % 7), i / 7, state),
-        _ => long_record(word, length_at(i), 1, state),
+        Group::Words { letters } => spell(word, letters, plus(i, 1)),
+        Group::Random { most } => random_record(word, most, run),
+        Group::Long => shaped(word, 4095 + i % 3, i / 3, run),
+        Group::Lent => shaped(word, length_at(i % 7), i / 7, run),
+        _ => shaped(word, length_at(i), 1, run),
     }
 }
 
-// A call that is lent buffers. Leaves what it should answer in `list`, and answers how many numbers that is.
-fn on_lent(
-    call: Call,
-    limits: bool,
-    many: usize,
-    word: &[u8],
-    list: &mut [u16],
-    state: &mut usize,
-    counts: &mut [u64],
-) -> usize {
-    let count = naive::answer(call, word, list);
-    try_cases(call, limits, many, word, front(list, count), state, counts);
-    count
+// The first cases of one call.
+fn on_call(call: Call, limits: bool, many: usize, word: &[u8], run: &mut Run) {
+    let mut list = [0u16; ENTRIES];
+    let count = naive::answer(call, word, &mut list);
+    try_cases(call, limits, many, word, front(&list, count), run);
 }
 
-// A cut, and the reader and the summary on its ends. Leaves the ends in `list`, and answers their number.
-fn on_cut(
-    call: Call,
-    word: &[u8],
-    list: &mut [u16],
-    state: &mut usize,
-    counts: &mut [u64],
-) -> usize {
-    let count = on_lent(call, false, 1, word, list, state, counts);
-    let ends = front(list, count);
-    try_cases(Call::Part, false, count, word, ends, state, counts);
-    try_cases(Call::Summary, false, 1, word, ends, state, counts);
-    count
+// The reader and the summary on a list of ends.
+fn on_ends(word: &[u8], ends: &[u16], run: &mut Run) {
+    try_cases(Call::Part, false, ends.len(), word, ends, run);
+    try_cases(Call::Summary, false, 1, word, ends, run);
 }
 
-// The comparison in any ranges and in those of whole pieces, and how far parts agree.
-fn on_ranges(word: &[u8], pieces: &[u16], state: &mut usize, counts: &mut [u64]) {
-    let mut places = [0u16; ENTRIES];
-    fill(&mut places, 0);
-    let all = front(&places, word.len());
-    try_cases(Call::Compare, false, 8, word, all, state, counts);
-    try_cases(Call::Compare, false, 4, word, pieces, state, counts);
-    try_cases(Call::Common, false, 4, word, pieces, state, counts);
+// The strict cut, and what goes by its ends.
+fn on_strict(word: &[u8], run: &mut Run) {
+    let mut list = [0u16; ENTRIES];
+    let count = naive::answer(Call::Strict, word, &mut list);
+    let ends = front(&list, count);
+    try_cases(Call::Strict, false, 1, word, ends, run);
+    on_ends(word, ends, run);
+}
+
+// The piece cut, and what goes by its ends: the comparison too, which has 8 ranges of its own and 4 of whole pieces.
+fn on_pieces(word: &[u8], run: &mut Run) {
+    let mut list = [0u16; ENTRIES];
+    let count = naive::answer(Call::Pieces, word, &mut list);
+    let ends = front(&list, count);
+    try_cases(Call::Pieces, false, 1, word, ends, run);
+    on_ends(word, ends, run);
+    try_cases(Call::Compare, false, 12, word, ends, run);
+    try_cases(Call::Common, false, 4, word, ends, run);
 }
 
 // All calls.
-fn on_record(word: &[u8], state: &mut usize, counts: &mut [u64]) {
-    let mut list = [0u16; ENTRIES];
-    on_lent(Call::Test, false, 1, word, &mut list, state, counts);
-    on_lent(Call::Starts, false, 1, word, &mut list, state, counts);
-    on_cut(Call::Strict, word, &mut list, state, counts);
-    let pieces = on_cut(Call::Pieces, word, &mut list, state, counts);
-    on_ranges(word, front(&list, pieces), state, counts);
+fn on_record(word: &[u8], run: &mut Run) {
+    on_call(Call::Test, false, 1, word, run);
+    on_call(Call::Starts, false, 1, word, run);
+    on_strict(word, run);
+    on_pieces(word, run);
 }
 
-// The calls at the boundaries of their refusals.
-fn at_limits(group: Group, word: &[u8], state: &mut usize, counts: &mut [u64]) {
-    let mut list = [0u16; ENTRIES];
+// The calls that are lent buffers, at the boundaries of their refusals.
+fn on_lent(word: &[u8], run: &mut Run) {
+    on_call(Call::Test, true, 4, word, run);
+    on_call(Call::Pieces, true, 16, word, run);
+    on_call(Call::Strict, true, 4, word, run);
+    on_call(Call::Starts, true, 4, word, run);
+}
+
+// The calls of a group.
+fn on_word(group: Group, word: &[u8], run: &mut Run) {
     match group {
-        Group::Ranges => try_cases(
-            Call::Compare,
-            true,
-            trials::RANGES,
-            word,
-            &list,
-            state,
-            counts,
-        ),
+        Group::Lent => on_lent(word, run),
+        Group::Ranges => on_call(Call::Compare, true, trials::RANGES, word, run),
         Group::Lists => {
-            try_cases(
-                Call::Part,
-                true,
-                5 * trials::LISTS,
-                word,
-                &list,
-                state,
-                counts,
-            );
-            try_cases(
-                Call::Summary,
-                true,
-                trials::LISTS,
-                word,
-                &list,
-                state,
-                counts,
-            );
+            on_call(Call::Part, true, 5 * trials::LISTS, word, run);
+            on_call(Call::Summary, true, trials::LISTS, word, run);
         }
-        _ => {
-            on_lent(Call::Test, true, 4, word, &mut list, state, counts);
-            on_lent(Call::Pieces, true, 16, word, &mut list, state, counts);
-            on_lent(Call::Strict, true, 4, word, &mut list, state, counts);
-            on_lent(Call::Starts, true, 4, word, &mut list, state, counts);
-        }
+        _ => on_record(word, run),
     }
 }
 
 // Record i of a group.
-fn try_record(group: Group, i: usize, state: &mut usize, counts: &mut [u64]) {
+fn try_record(group: Group, i: usize, run: &mut Run) {
     let mut word = [0u8; 4100];
-    let n = write(group, i, &mut word, state);
-    if word.len() < n {
-        return;
-    }
-    match group {
-        Group::Lent | Group::Ranges | Group::Lists => at_limits(group, &word[0..n], state, counts),
-        _ => on_record(&word[0..n], state, counts),
+    let n = write_record(group, i, &mut word, run);
+    if n <= word.len() {
+        on_word(group, &word[0..n], run);
     }
 }
 
 /// The first `many` records of a group.
-pub fn try_group(group: Group, many: usize, state: &mut usize, counts: &mut [u64]) {
+pub fn try_group(group: Group, many: usize, run: &mut Run) {
     let mut i: usize = 0;
     while i < many {
-        try_record(group, i, state, counts);
+        try_record(group, i, run);
         i += 1;
     }
 }

@@ -6,17 +6,18 @@ mod printing; // the lines that are printed
 
 use groups::Group;
 use groups::try_group;
+use trials::Run;
 
 fn main() {
-    let mut counts = [0u64; trials::tally::COUNTS];
-    let mut state: usize = 20011;
-    try_group(Group::TwoLetters, 1022, &mut state, &mut counts);
-    try_group(Group::ThreeLetters, 1092, &mut state, &mut counts);
-    try_group(Group::Random, 3000, &mut state, &mut counts);
-    try_group(Group::RandomLong, 60, &mut state, &mut counts);
-    try_group(Group::Long, 24, &mut state, &mut counts);
-    try_group(Group::Lent, 56, &mut state, &mut counts);
-    try_group(Group::Ranges, 7, &mut state, &mut counts);
-    try_group(Group::Lists, 7, &mut state, &mut counts);
-    printing::print_all(&counts);
+    let mut run: Run = [0; 33];
+    run[32] = 20011;
+    try_group(Group::Words { letters: 2 }, 1022, &mut run);
+    try_group(Group::Words { letters: 3 }, 1092, &mut run);
+    try_group(Group::Random { most: 300 }, 3000, &mut run);
+    try_group(Group::Random { most: 4096 }, 60, &mut run);
+    try_group(Group::Long, 24, &mut run);
+    try_group(Group::Lent, 56, &mut run);
+    try_group(Group::Ranges, 7, &mut run);
+    try_group(Group::Lists, 7, &mut run);
+    printing::print_all(&run);
 }

@@ -31,6 +31,13 @@ pub fn store(list: &mut [u16], at: usize, value: usize) {
     }
 }
 
+/// Stores the first three entries.
+pub fn store_three(list: &mut [u16], a: usize, b: usize, c: usize) {
+    store(list, 0, a);
+    store(list, 1, b);
+    store(list, 2, c);
+}
+
 /// The word from a place on, empty past the end.
 pub fn tail(word: &[u8], from: usize) -> &[u8] {
     if word.len() < from {

@@ -1,7 +1,7 @@
 //! The calls by name, and what those that are lent buffers answer, as a list of numbers: in the faster way and by the definitions.
 use super::access::minus;
 use super::access::plus;
-use super::access::store;
+use super::access::store_three;
 use super::extension::border;
 use super::extension::failing_by_trial;
 use super::extension::failing_length;
@@ -30,19 +30,18 @@ fn verdict(word: &[u8], failing: usize, list: &mut [u16]) -> usize {
         return 0;
     }
     let r = border(word, failing);
-    store(list, 0, failing);
-    store(list, 1, minus(failing, plus(r, 1)));
-    store(list, 2, r);
+    store_three(list, failing, minus(failing, plus(r, 1)), r);
     3
 }
 
-/// Writes what a call that is lent buffers answers. Answers how many numbers.
+/// Writes what a call that is lent buffers answers, nothing for the others. Answers how many numbers.
 pub fn answer(call: Call, word: &[u8], list: &mut [u16]) -> usize {
     match call {
         Call::Test => verdict(word, failing_length(word), list),
         Call::Pieces => pieces_by_fold(word, list),
         Call::Strict => strict_by_suffixes(word, list),
-        _ => starts_by_suffixes(word, list),
+        Call::Starts => starts_by_suffixes(word, list),
+        _ => 0,
     }
 }
 
@@ -52,7 +51,8 @@ pub fn answer_by_definition(call: Call, word: &[u8], list: &mut [u16]) -> usize 
         Call::Test => verdict(word, failing_by_trial(word), list),
         Call::Pieces => pieces_by_definition(word, list),
         Call::Strict => strict_by_longest(word, list),
-        _ => starts_by_longest(word, list),
+        Call::Starts => starts_by_longest(word, list),
+        _ => 0,
     }
 }
 

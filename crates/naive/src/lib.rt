@@ -19,6 +19,7 @@ pub use access::minus;
 pub use access::plus;
 pub use access::set_letter;
 pub use access::store;
+pub use access::store_three;
 pub use access::tail;
 pub use calls::Call;
 pub use calls::answer;

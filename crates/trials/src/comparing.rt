@@ -1,6 +1,7 @@
 //! The comparison, and how far two words agree.
-use super::draw::draw;
 use super::numbers::about;
+use super::run::Run;
+use super::run::draw;
 use compare::Comparison;
 use naive::minus;
 use naive::plus;
@@ -15,15 +16,27 @@ fn comparison_is(word: &[u8], first: usize, end: usize, start: usize, other: usi
     }
 }
 
-/// In a range of whole parts at random, with two starts at random.
-pub fn agrees(word: &[u8], ends: &[u16], state: &mut usize) -> bool {
-    let from = draw(state, ends.len());
-    let last = plus(from, draw(state, minus(ends.len(), from)));
-    let first = naive::part_start(ends, from);
-    let end = naive::part_end(ends, last);
-    let start = plus(first, draw(state, minus(end, first)));
-    let other = plus(first, draw(state, minus(end, first)));
+// In a range, with two starts at random.
+fn agrees_in(word: &[u8], first: usize, end: usize, run: &mut Run) -> bool {
+    let start = plus(first, draw(run, minus(end, first)));
+    let other = plus(first, draw(run, minus(end, first)));
     comparison_is(word, first, end, start, other)
+}
+
+/// In a range at random, from case 8 on in one of whole parts.
+pub fn agrees(word: &[u8], ends: &[u16], code: usize, run: &mut Run) -> bool {
+    let many = if code < 8 { word.len() } else { ends.len() };
+    let from = draw(run, many);
+    let last = plus(from, draw(run, minus(many, from)));
+    if code < 8 {
+        return agrees_in(word, from, plus(last, 1), run);
+    }
+    agrees_in(
+        word,
+        naive::part_start(ends, from),
+        naive::part_end(ends, last),
+        run,
+    )
 }
 
 /// How many cases there are at the boundaries of range and starts.
@@ -39,9 +52,9 @@ pub fn agrees_at_limits(word: &[u8], code: usize) -> bool {
 }
 
 // A part at random.
-fn random_part<'a>(word: &'a [u8], state: &mut usize) -> &'a [u8] {
-    let from = naive::tail(word, draw(state, word.len()));
-    let size = draw(state, plus(from.len(), 1));
+fn random_part<'a>(word: &'a [u8], run: &mut Run) -> &'a [u8] {
+    let from = naive::tail(word, draw(run, word.len()));
+    let size = draw(run, plus(from.len(), 1));
     if from.len() < size {
         return from;
     }
@@ -49,8 +62,8 @@ fn random_part<'a>(word: &'a [u8], state: &mut usize) -> &'a [u8] {
 }
 
 /// How far two parts at random agree.
-pub fn common_agrees(word: &[u8], state: &mut usize) -> bool {
-    let x = random_part(word, state);
-    let y = random_part(word, state);
+pub fn common_agrees(word: &[u8], run: &mut Run) -> bool {
+    let x = random_part(word, run);
+    let y = random_part(word, run);
     compare::common_length(x, y) == naive::common(x, y)
 }

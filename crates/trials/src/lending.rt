@@ -8,7 +8,7 @@ use naive::Call;
 use naive::ENTRIES;
 use naive::front;
 use naive::plus;
-use naive::store;
+use naive::store_three;
 use naive::work_needed;
 
 // What the buffers hold before a call begins above these; no answer is so great.
@@ -29,11 +29,19 @@ fn listed(answer: Extension, list: &mut [u16]) -> Counted {
             prefix,
             border,
         } => {
-            store(list, 0, failing);
-            store(list, 1, prefix);
-            store(list, 2, border);
+            store_three(list, failing, prefix, border);
             Counted::Count(3)
         }
+    }
+}
+
+// The call.
+fn call_with(call: Call, word: &[u8], work: &mut [u16], list: &mut [u16]) -> Counted {
+    match call {
+        Call::Test => listed(extension::find_extension(word, work), list),
+        Call::Pieces => icfl::icfl(word, work, list),
+        Call::Strict => cfl::cfl_in(word, list),
+        _ => table::lyndon_table(word, list),
     }
 }
 
@@ -52,12 +60,7 @@ fn lend(
     if list.len() < space {
         return Counted::Refused(99);
     }
-    match call {
-        Call::Test => listed(extension::find_extension(word, &mut work[0..room]), list),
-        Call::Pieces => icfl::icfl(word, &mut work[0..room], &mut list[0..space]),
-        Call::Strict => cfl::cfl_in(word, &mut list[0..space]),
-        _ => table::lyndon_table(word, &mut list[0..space]),
-    }
+    call_with(call, word, &mut work[0..room], &mut list[0..space])
 }
 
 // Whether the answer is the refusal, or the count where that is 0.
@@ -68,7 +71,27 @@ fn is_count(answer: Counted, refused: u8, count: usize) -> bool {
     }
 }
 
-// Whether the call, lent so many work and result entries, answers the list `want` or refuses as the second implementation says, and leaves both buffers as paper 01 says.
+// Whether the answer is the list `want` or the refusal, and both buffers are as paper 01 says after it.
+fn is_right(
+    answer: Counted,
+    refused: u8,
+    needed: usize,
+    want: &[u16],
+    work: &[u16],
+    list: &[u16],
+) -> bool {
+    let cleared = if refused == 0 || refused == 4 {
+        needed
+    } else {
+        0
+    };
+    let written = if refused == 0 { want.len() } else { 0 };
+    is_count(answer, refused, want.len())
+        && is_left(work, cleared, front(want, 0), WORK_SALT)
+        && is_left(list, 0, front(want, written), SALT)
+}
+
+// Whether the call, lent so many work and result entries, does as the second implementation says.
 fn lent_is(call: Call, word: &[u8], room: usize, space: usize, want: &[u16]) -> bool {
     let mut work = [0u16; 3 * ENTRIES];
     let mut list = [0u16; ENTRIES];
@@ -77,15 +100,7 @@ fn lent_is(call: Call, word: &[u8], room: usize, space: usize, want: &[u16]) -> 
     let answer = lend(call, word, &mut work, room, &mut list, space);
     let needed = work_needed(call, word.len());
     let refused = naive::lent_refusal(word.len(), needed, room, want.len(), space);
-    let cleared = if refused == 0 || refused == 4 {
-        needed
-    } else {
-        0
-    };
-    let written = if refused == 0 { want.len() } else { 0 };
-    is_count(answer, refused, want.len())
-        && is_left(&work, cleared, front(want, 0), WORK_SALT)
-        && is_left(&list, 0, front(want, written), SALT)
+    is_right(answer, refused, needed, want, &work, &list)
 }
 
 // Whether the definitions give the same list, for a short record.

@@ -5,6 +5,7 @@ use naive::letter;
 use naive::minus;
 use naive::plus;
 use naive::store;
+use naive::store_three;
 
 /// Eight numbers about a and b, in an order in which each use takes neighbours: one above a, then 0, one below, at and one above b, the largest number, a, and one below it.
 pub fn about(a: usize, b: usize, which: usize) -> usize {
@@ -25,18 +26,21 @@ pub fn about_needed(needed: usize, which: usize) -> usize {
     about(0, needed, which % 4 + 1)
 }
 
-// The number that a letter of a spelled word stands for.
-fn digit(word: &[u8], i: usize) -> usize {
-    minus(letter(word, i) as usize, 97)
+// The end that letter i of a spelled word stands for: 0, 1, 2, 3, n − 1, n, n + 1 or the largest number.
+fn end_at(n: usize, word: &[u8], i: usize) -> usize {
+    about(2, n, minus(letter(word, i) as usize, 97))
 }
 
-// One of the 585 lists of at most three ends out of 0, 1, 2, 3, n − 1, n, n + 1 and the largest entry.
+// One of the 585 lists of at most three such ends.
 fn short_list(list: &mut [u16], n: usize, number: usize) -> usize {
-    let mut digits = [97u8; 3];
-    let count = spell(&mut digits, 8, number);
-    store(list, 0, about(2, n, digit(&digits, 0)));
-    store(list, 1, about(2, n, digit(&digits, 1)));
-    store(list, 2, about(2, n, digit(&digits, 2)));
+    let mut word = [97u8; 3];
+    let count = spell(&mut word, 8, number);
+    store_three(
+        list,
+        end_at(n, &word, 0),
+        end_at(n, &word, 1),
+        end_at(n, &word, 2),
+    );
     count
 }
 

@@ -1,5 +1,6 @@
 //! Records of a shape, written to the first n letters.
-use super::draw::draw;
+use super::run::Run;
+use super::run::draw;
 use naive::letter;
 use naive::minus;
 use naive::plus;
@@ -7,14 +8,14 @@ use naive::set_letter;
 
 /// What the letters of a record are.
 pub enum Shape {
-    /// At random for the first `size` letters, and then repeated.
-    Periodic,
+    /// At random over so many letters for one period, and then repeated.
+    Periodic { letters: usize, period: usize },
     /// In about one place of four a letter at random, elsewhere the one before it.
-    Plateaus,
-    /// Rising: the next letter after every `size` + 1 places.
-    Rising,
+    Plateaus { letters: usize },
+    /// Rising: the next letter after every `width` + 1 places.
+    Rising { width: usize },
     /// Falling in the same way.
-    Falling,
+    Falling { width: usize },
     /// c^k a c^k b.
     Powers,
 }
@@ -46,50 +47,38 @@ fn new_or_old(word: &[u8], i: usize, new: usize, is_new: bool, back: usize) -> u
     }
 }
 
+// Letter i of c^k a c^k b.
+fn power(n: usize, i: usize) -> usize {
+    if i == minus(n, 1) {
+        return 98;
+    }
+    if i == minus(n, 2) / 2 { 97 } else { 99 }
+}
+
 // Letter i of n.
-fn letter_of(
-    word: &[u8],
-    n: usize,
-    i: usize,
-    shape: Shape,
-    letters: usize,
-    size: usize,
-    state: &mut usize,
-) -> usize {
-    let height = i / (size % 4097 + 1);
+fn letter_of(word: &[u8], n: usize, i: usize, shape: Shape, run: &mut Run) -> usize {
     match shape {
-        Shape::Periodic => {
-            let new = draw(state, letters);
-            new_or_old(word, i, new, i < size || size == 0, size)
+        Shape::Periodic { letters, period } => {
+            let new = draw(run, letters);
+            new_or_old(word, i, new, i < period || period == 0, period)
         }
-        Shape::Plateaus => {
-            let new = draw(state, letters);
-            new_or_old(word, i, new, draw(state, 4) == 0, 1)
+        Shape::Plateaus { letters } => {
+            let new = draw(run, letters);
+            new_or_old(word, i, new, draw(run, 4) == 0, 1)
         }
-        Shape::Rising => height,
-        Shape::Falling => minus(255, height),
-        Shape::Powers => {
-            if i == minus(n, 1) {
-                return 98;
-            }
-            if i == minus(n, 2) / 2 { 97 } else { 99 }
-        }
+        Shape::Rising { width } => i / (width % 256 + 1),
+        Shape::Falling { width } => minus(255, i / (width % 256 + 1)),
+        Shape::Powers => power(n, i),
     }
 }
 
-/// Writes a record of n letters, those at random over so many.
-pub fn write(
-    word: &mut [u8],
-    n: usize,
-    shape: Shape,
-    letters: usize,
-    size: usize,
-    state: &mut usize,
-) {
+/// Writes a record of n letters. Answers n.
+pub fn write(word: &mut [u8], n: usize, shape: Shape, run: &mut Run) -> usize {
     let mut i: usize = 0;
     while i < n {
-        let value = letter_of(word, n, i, shape, letters, size, state);
+        let value = letter_of(word, n, i, shape, run);
         set_letter(word, i, value);
         i += 1;
     }
+    n
 }

@@ -1,19 +1,17 @@
--- Safe and ending: the loop's measure is what is left, and a lent buffer keeps its length.
+-- Safe and ending: the loop's measure is what is left.
 use borrow.Author.Needs.{needs}
-use mathlib.Core.Path.{_≡_}
 use Prim.Native.Nat.{_-_}
-use lib.ListN.{length}
 use Rattle.cases.proofs.groups.try_group.Statement.{statement}
 use Rattle.cases.proofs.groups.try_group.Tie as tie
 
 abbrev Inv-loop : tie.InvT-loop
-Inv-loop group many state₀ counts₀ i₀ state counts i = length counts ≡ length counts₀
+Inv-loop group many run₀ i₀ run i = Unit {0}
 
 abbrev μ-loop : tie.MeasureT-loop
-μ-loop group many state₀ counts₀ i₀ state counts i = many - i
+μ-loop group many run₀ i₀ run i = many - i
 
 pub try-group-spec : {M : Type 1} → statement M
 try-group-spec =
     tie.close
     (tie.spec Inv-loop μ-loop (λ c. search needs) (λ c κs. search needs) (λ c. search needs) (λ c. search needs)
-    (λ c. search needs) (λ c. search needs) (λ c. search needs))
+    (λ c. search needs) (λ c. search needs))

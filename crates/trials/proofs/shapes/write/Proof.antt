@@ -7,10 +7,10 @@ use Rattle.trials.proofs.shapes.write.Statement.{statement}
 use Rattle.trials.proofs.shapes.write.Tie as tie
 
 abbrev Inv-loop : tie.InvT-loop
-Inv-loop word₀ n shape letters size state₀ i₀ word state i = length word ≡ length word₀
+Inv-loop word₀ n shape run₀ i₀ word run i = length word ≡ length word₀
 
 abbrev μ-loop : tie.MeasureT-loop
-μ-loop word₀ n shape letters size state₀ i₀ word state i = n - i
+μ-loop word₀ n shape run₀ i₀ word run i = n - i
 
 pub write-spec : {M : Type 1} → statement M
 write-spec =
