@@ -27,9 +27,10 @@ pub enum Group {
     Lists,
 }
 
-// One of eight shapes of a length.
-fn shaped(word: &mut [u8], n: usize, which: usize, run: &mut Run) -> usize {
-    write(word, n, shape_at(which, n), run)
+// One of eight shapes of a length at the boundaries.
+fn shaped(word: &mut [u8], length: usize, shape: usize, run: &mut Run) -> usize {
+    let n = length_at(length);
+    write(word, n, shape_at(shape, n), run)
 }
 
 // Writes record i of a group. Answers its length.
@@ -37,9 +38,9 @@ fn write_record(group: Group, i: usize, word: &mut [u8], run: &mut Run) -> usize
     match group {
         Group::Words { letters } => spell(word, letters, plus(i, 1)),
         Group::Random { most } => random_record(word, most, run),
-        Group::Long => shaped(word, 4095 + i % 3, i / 3, run),
-        Group::Lent => shaped(word, length_at(i % 7), i / 7, run),
-        _ => shaped(word, length_at(i), 1, run),
+        Group::Long => shaped(word, 4 + i % 3, i / 3, run),
+        Group::Lent => shaped(word, i % 7, i / 7, run),
+        _ => shaped(word, i, 1, run),
     }
 }
 

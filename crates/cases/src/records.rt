@@ -80,7 +80,7 @@ pub fn shape_at(which: usize, n: usize) -> Shape {
     }
 }
 
-/// A length at the boundaries.
+/// A length at the boundaries; the last three are those of long records.
 pub fn length_at(which: usize) -> usize {
     match which {
         0 => 0,

@@ -27,8 +27,8 @@ fn agrees_at_limits(call: Call, word: &[u8], list: &[u16], code: usize) -> bool 
     }
 }
 
-/// The first `many` cases of a call, at the boundaries of its refusals or not. The list is what a call that is lent buffers should answer, and the ends that comparison, reader
-/// and summary go by.
+/// The first `many` cases of a call, at the boundaries of its refusals or not. The list is what a call that is lent buffers should answer, and the ends
+/// that comparison, reader and summary go by.
 pub fn try_cases(call: Call, limits: bool, many: usize, word: &[u8], list: &[u16], run: &mut Run) {
     let mut code: usize = 0;
     while code < many {

@@ -7,7 +7,8 @@ use naive::plus;
 use naive::store;
 use naive::store_three;
 
-/// Eight numbers about a and b, in an order in which each use takes neighbours: one above a, then 0, one below, at and one above b, the largest number, a, and one below it.
+/// Eight numbers about a and b: one above a, then 0, one below b, b, one above it, the largest number, a, and one below it. Each use takes neighbours of
+/// this order.
 pub fn about(a: usize, b: usize, which: usize) -> usize {
     match which {
         0 => plus(a, 1),
@@ -47,8 +48,8 @@ fn short_list(list: &mut [u16], n: usize, number: usize) -> usize {
 /// How many lists of ends there are for a record.
 pub const LISTS: usize = 588;
 
-/// Writes a list of ends for a record of n letters, with or without faults: the short ones; all places, and these with the last end or one in the middle raised to the
-/// next. Answers how many ends it has.
+/// Writes a list of ends for a record of n letters, with or without faults: first the short ones, then all places, and these with the last end or one in
+/// the middle raised to the next. Answers how many ends it has.
 pub fn write_list(list: &mut [u16], n: usize, number: usize) -> usize {
     let at = match number {
         585 => n,

@@ -38,12 +38,23 @@ pub fn spell(word: &mut [u8], letters: usize, number: usize) -> usize {
     i
 }
 
-// A new letter, or the one `back` places before i.
-fn new_or_old(word: &[u8], i: usize, new: usize, is_new: bool, back: usize) -> usize {
-    if is_new {
+// Letter i at random, or that of one period before.
+fn periodic(word: &[u8], i: usize, letters: usize, period: usize, run: &mut Run) -> usize {
+    let new = draw(run, letters);
+    if i < period || period == 0 {
         new
     } else {
-        letter(word, minus(i, back)) as usize
+        letter(word, minus(i, period)) as usize
+    }
+}
+
+// Letter i at random, or as the one before it.
+fn plateau(word: &[u8], i: usize, letters: usize, run: &mut Run) -> usize {
+    let new = draw(run, letters);
+    if draw(run, 4) == 0 {
+        new
+    } else {
+        letter(word, minus(i, 1)) as usize
     }
 }
 
@@ -58,14 +69,8 @@ fn power(n: usize, i: usize) -> usize {
 // Letter i of n.
 fn letter_of(word: &[u8], n: usize, i: usize, shape: Shape, run: &mut Run) -> usize {
     match shape {
-        Shape::Periodic { letters, period } => {
-            let new = draw(run, letters);
-            new_or_old(word, i, new, i < period || period == 0, period)
-        }
-        Shape::Plateaus { letters } => {
-            let new = draw(run, letters);
-            new_or_old(word, i, new, draw(run, 4) == 0, 1)
-        }
+        Shape::Periodic { letters, period } => periodic(word, i, letters, period, run),
+        Shape::Plateaus { letters } => plateau(word, i, letters, run),
         Shape::Rising { width } => i / (width % 256 + 1),
         Shape::Falling { width } => minus(255, i / (width % 256 + 1)),
         Shape::Powers => power(n, i),
