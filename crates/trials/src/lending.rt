@@ -19,9 +19,9 @@ const SALT: usize = 40000;
 // Records up to this length go by the definitions too; longer ones by the faster second ways alone.
 const SHORT: usize = 300;
 
-// The test's answer as a list, like that of the second implementation.
-fn listed(answer: Extension, list: &mut [u16]) -> Counted {
-    match answer {
+// The test, its answer written as a list like that of the second implementation.
+fn test(word: &[u8], work: &mut [u16], list: &mut [u16]) -> Counted {
+    match extension::find_extension(word, work) {
         Extension::Refused(number) => Counted::Refused(number),
         Extension::InverseLyndon => Counted::Count(0),
         Extension::Failing {
@@ -38,7 +38,7 @@ fn listed(answer: Extension, list: &mut [u16]) -> Counted {
 // The call.
 fn call_with(call: Call, word: &[u8], work: &mut [u16], list: &mut [u16]) -> Counted {
     match call {
-        Call::Test => listed(extension::find_extension(word, work), list),
+        Call::Test => test(word, work, list),
         Call::Pieces => icfl::icfl(word, work, list),
         Call::Strict => cfl::cfl_in(word, list),
         _ => table::lyndon_table(word, list),
