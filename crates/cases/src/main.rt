@@ -1,18 +1,23 @@
 //! Runs the calls on many records and compares what they answer, and every entry of the buffers that they are lent, with the second implementation of
 //! `naive`. Prints for each call on how many inputs the two agreed and disagreed; then the same for inputs at the boundaries of the refusals.
-mod records; // all calls on one record
-mod inputs; // the records: all short ones, random ones, long ones
-mod limits; // the boundaries of the refusals of the calls that are lent buffers
-mod ranges; // the boundaries of the comparison's refusals
-mod lists; // the boundaries of the reader's and the summary's refusals
+mod records; // the records: all short ones, random ones, long ones
+mod groups; // the groups of records, and the calls that are made on each
 mod printing; // the lines that are printed
 
+use groups::Group;
+use groups::try_group;
+use trials::Run;
+
 fn main() {
-    let mut counts = [0u64; 32];
-    let mut state: usize = 20011;
-    inputs::all_records(&mut state, &mut counts);
-    limits::all_limits(&mut state, &mut counts);
-    ranges::all_ranges(&mut state, &mut counts);
-    lists::all_lists(&mut state, &mut counts);
-    printing::print_all(&counts);
+    let mut run: Run = [0; 33];
+    run[32] = 20011;
+    try_group(Group::Words { letters: 2 }, 1022, &mut run);
+    try_group(Group::Words { letters: 3 }, 1092, &mut run);
+    try_group(Group::Random { most: 300 }, 3000, &mut run);
+    try_group(Group::Random { most: 4096 }, 60, &mut run);
+    try_group(Group::Long, 24, &mut run);
+    try_group(Group::Lent, 56, &mut run);
+    try_group(Group::Ranges, 7, &mut run);
+    try_group(Group::Lists, 7, &mut run);
+    printing::print_all(&run);
 }

@@ -1,57 +1,43 @@
 //! The lines of the program: for each call on how many inputs it agreed with the second implementation, and on how many not.
 use libc::STDOUT_FILENO;
-use trials::tally;
+use naive::Call;
+use naive::plus;
+use trials::Run;
+use trials::place;
 
-fn print_count(counts: &[u64], at: usize) {
-    if at < counts.len() {
-        io::print_decimal(STDOUT_FILENO, counts[at]);
+fn print_count(run: &Run, at: usize) {
+    if at < 32 {
+        io::print_decimal(STDOUT_FILENO, run[at] as u64);
     }
 }
 
-// One line: the call, what was counted, and the two counts.
-fn print_line(name: &[u8], kind: &[u8], counts: &[u64], call: usize) {
+// One line: the call, and its two counts.
+fn print_line(name: &[u8], call: Call, limits: bool, run: &Run) {
     io::write_all(STDOUT_FILENO, name);
-    io::write_all(STDOUT_FILENO, kind);
-    print_count(counts, call);
+    if limits {
+        io::write_all(STDOUT_FILENO, b" refusals");
+    }
+    io::write_all(STDOUT_FILENO, b" agreed=");
+    print_count(run, place(call, limits));
     io::write_all(STDOUT_FILENO, b" disagreed=");
-    print_count(counts, naive::plus(call, 1));
+    print_count(run, plus(place(call, limits), 1));
     io::write_all(STDOUT_FILENO, b"\n");
 }
 
 // The lines of the public calls.
-fn print_calls(kind: &[u8], counts: &[u64], from: usize) {
-    print_line(
-        b"find_extension",
-        kind,
-        counts,
-        naive::plus(from, tally::TEST),
-    );
-    print_line(b"icfl", kind, counts, naive::plus(from, tally::PIECES));
-    print_line(b"cfl_in", kind, counts, naive::plus(from, tally::STRICT));
-    print_line(
-        b"lyndon_table",
-        kind,
-        counts,
-        naive::plus(from, tally::STARTS),
-    );
-    print_line(
-        b"compare_suffixes",
-        kind,
-        counts,
-        naive::plus(from, tally::COMPARE),
-    );
-    print_line(b"factor_at", kind, counts, naive::plus(from, tally::PART));
-    print_line(
-        b"summarize",
-        kind,
-        counts,
-        naive::plus(from, tally::SUMMARY),
-    );
+fn print_calls(limits: bool, run: &Run) {
+    print_line(b"find_extension", Call::Test, limits, run);
+    print_line(b"icfl", Call::Pieces, limits, run);
+    print_line(b"cfl_in", Call::Strict, limits, run);
+    print_line(b"lyndon_table", Call::Starts, limits, run);
+    print_line(b"compare_suffixes", Call::Compare, limits, run);
+    print_line(b"factor_at", Call::Part, limits, run);
+    print_line(b"summarize", Call::Summary, limits, run);
 }
 
 /// All lines; `common_length` has no refusal.
-pub fn print_all(counts: &[u64]) {
-    print_calls(b" agreed=", counts, 0);
-    print_line(b"common_length", b" agreed=", counts, tally::COMMON);
-    print_calls(b" refusals agreed=", counts, tally::LIMITS);
+pub fn print_all(run: &Run) {
+    print_calls(false, run);
+    print_line(b"common_length", Call::Common, false, run);
+    print_calls(true, run);
 }

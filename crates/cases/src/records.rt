@@ -1,115 +1,94 @@
-//! All calls on one record.
-use naive::front;
+//! The records on which the calls are compared. Each function writes one and answers its length.
+use naive::minus;
 use naive::plus;
-use trials::buffers;
-use trials::comparing;
-use trials::filling;
-use trials::parting;
-use trials::tally;
-use trials::testing;
+use naive::set_letter;
+use trials::Run;
+use trials::Shape;
+use trials::draw;
+use trials::write;
 
-// Records up to this length go by the definitions too, which take cubic time; longer ones by the faster second ways alone.
-const SHORT: usize = 300;
-
-// The length of the shortest failing prefix by trying every length, for a short record.
-fn is_failing(word: &[u8], failing: usize) -> bool {
-    SHORT < word.len() || naive::failing_by_trial(word) == failing
-}
-
-fn on_test(word: &[u8], counts: &mut [u64]) {
-    let failing = naive::failing_length(word);
-    let r = naive::border(word, failing);
-    let room = plus(word.len(), word.len() % 7);
-    let right = testing::test_is(word, room, failing, r) && is_failing(word, failing);
-    tally::note(counts, tally::TEST, right);
-}
-
-// The piece cut by its recursive definition, for a short record.
-fn are_pieces(word: &[u8], want: &[u16]) -> bool {
-    if SHORT < word.len() {
-        return true;
+// 2 letters, 3, 4, or at random up to 256.
+fn alphabet(run: &mut Run) -> usize {
+    match draw(run, 5) {
+        0 => 2,
+        1 => 3,
+        2 => 4,
+        3 => 256,
+        _ => plus(2, draw(run, 255)),
     }
-    let mut firsts = [0u16; 300];
-    let mut ends = [0u16; 300];
-    let count = naive::pieces_by_definition(word, &mut firsts, &mut ends);
-    count == want.len() && buffers::begins(&ends, want)
 }
 
-fn on_pieces(word: &[u8], want: &[u16], counts: &mut [u64]) {
-    let n = word.len() % 4098;
-    let right = filling::pieces_are(word, 3 * n + n % 7, plus(want.len(), n % 5), want);
-    tally::note(counts, tally::PIECES, right && are_pieces(word, want));
-}
-
-// The strict cut by the longest prefixes, for a short record.
-fn is_strict(word: &[u8], want: &[u16]) -> bool {
-    if SHORT < word.len() {
-        return true;
+// Periodic with a short period or one of about half the length, plateaus, a ramp, or letters at random.
+fn random_shape(kind: usize, n: usize, letters: usize, run: &mut Run) -> Shape {
+    match kind {
+        0 | 1 => Shape::Periodic {
+            letters,
+            period: plus(1, draw(run, 12)),
+        },
+        2 | 3 => Shape::Periodic {
+            letters,
+            period: minus(n / 2, draw(run, 3)),
+        },
+        4 => Shape::Plateaus { letters },
+        5 => Shape::Rising {
+            width: draw(run, 13),
+        },
+        6 => Shape::Falling {
+            width: draw(run, 13),
+        },
+        _ => Shape::Periodic { letters, period: n },
     }
-    let mut ends = [0u16; 300];
-    let count = naive::strict_by_longest(word, &mut ends);
-    count == want.len() && buffers::begins(&ends, want)
 }
 
-fn on_strict(word: &[u8], want: &[u16], counts: &mut [u64]) {
-    let right = filling::strict_is(word, plus(want.len(), word.len() % 5), want);
-    tally::note(counts, tally::STRICT, right && is_strict(word, want));
-}
-
-// The start table by the longest prefixes, for a short record.
-fn are_starts(word: &[u8], want: &[u16]) -> bool {
-    if SHORT < word.len() {
-        return true;
+/// A pseudo-random record of 1 to `most` letters; of the periodic ones some have one new letter.
+pub fn random_record(word: &mut [u8], most: usize, run: &mut Run) -> usize {
+    let n = plus(1, draw(run, most));
+    let letters = alphabet(run);
+    let kind = draw(run, 9);
+    let shape = random_shape(kind, n, letters, run);
+    write(word, n, shape, run);
+    if kind == 1 || kind == 3 {
+        let at = draw(run, n);
+        set_letter(word, at, draw(run, letters));
     }
-    let mut lengths = [0u16; 300];
-    naive::starts_by_longest(word, &mut lengths);
-    buffers::begins(&lengths, want)
+    n
 }
 
-fn on_starts(word: &[u8], counts: &mut [u64]) {
-    let mut lengths = [0u16; 4110];
-    let mut stack = [0u16; 4110];
-    naive::starts_by_suffixes(word, &mut lengths, &mut stack);
-    let want = front(&lengths, word.len());
-    let right = filling::starts_are(word, plus(word.len(), word.len() % 5), want);
-    tally::note(counts, tally::STARTS, right && are_starts(word, want));
+/// One of eight shapes: all equal, random over 2 and over 256 letters, rising, falling, c^k a c^k b, plateaus, periodic.
+pub fn shape_at(which: usize, n: usize) -> Shape {
+    match which {
+        0 => Shape::Periodic {
+            letters: 1,
+            period: n,
+        },
+        1 => Shape::Periodic {
+            letters: 2,
+            period: n,
+        },
+        2 => Shape::Periodic {
+            letters: 256,
+            period: n,
+        },
+        3 => Shape::Rising { width: 15 },
+        4 => Shape::Falling { width: 15 },
+        5 => Shape::Powers,
+        6 => Shape::Plateaus { letters: 3 },
+        _ => Shape::Periodic {
+            letters: 3,
+            period: 100,
+        },
+    }
 }
 
-fn on_list(word: &[u8], ends: &[u16], counts: &mut [u64]) {
-    parting::read_all(word, ends, counts);
-    tally::note(counts, tally::SUMMARY, parting::summary_is(word, ends));
-}
-
-// Random comparisons.
-fn on_ranges(word: &[u8], pieces: &[u16], state: &mut usize, counts: &mut [u64]) {
-    comparing::compare_some(word, 8, state, counts);
-    comparing::compare_pieces(word, pieces, 4, state, counts);
-    comparing::common_some(word, 4, state, counts);
-}
-
-// All calls on one record, with its cuts by the second implementation.
-fn on_cuts(word: &[u8], pieces: &[u16], strict: &[u16], state: &mut usize, counts: &mut [u64]) {
-    on_test(word, counts);
-    on_pieces(word, pieces, counts);
-    on_strict(word, strict, counts);
-    on_starts(word, counts);
-    on_ranges(word, pieces, state, counts);
-    on_list(word, pieces, counts);
-    on_list(word, strict, counts);
-}
-
-/// All calls on one record.
-pub fn on_record(word: &[u8], state: &mut usize, counts: &mut [u64]) {
-    let mut strict = [0u16; 4110];
-    let mut marks = [0u16; 4110];
-    let mut pieces = [0u16; 4110];
-    let factors = naive::strict_by_suffixes(word, &mut strict);
-    let count = naive::pieces_by_fold(word, &strict, factors, &mut marks, &mut pieces);
-    on_cuts(
-        word,
-        front(&pieces, count),
-        front(&strict, factors),
-        state,
-        counts,
-    );
+/// A length at the boundaries; the last three are those of long records.
+pub fn length_at(which: usize) -> usize {
+    match which {
+        0 => 0,
+        1 => 1,
+        2 => 2,
+        3 => 9,
+        4 => 4095,
+        5 => 4096,
+        _ => 4097,
+    }
 }

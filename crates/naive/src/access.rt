@@ -1,5 +1,8 @@
 //! Letters and entries at a place, sums and differences, each defined for all arguments.
 
+/// Room for the list of the longest record that is tried, 4,097 letters, and for some entries more.
+pub const ENTRIES: usize = 4110;
+
 fn wide(x: u16) -> usize {
     x as usize
 }
@@ -21,11 +24,18 @@ pub fn set_letter(word: &mut [u8], at: usize, value: usize) {
     }
 }
 
-/// Stores an entry, by its remainder modulo 65,536; past the end nothing.
+/// Stores an entry, 65,535 for a greater number; past the end nothing.
 pub fn store(list: &mut [u16], at: usize, value: usize) {
     if at < list.len() {
-        list[at] = (value % 65536) as u16;
+        list[at] = if value < 65536 { value as u16 } else { 65535 };
     }
+}
+
+/// Stores the first three entries.
+pub fn store_three(list: &mut [u16], a: usize, b: usize, c: usize) {
+    store(list, 0, a);
+    store(list, 1, b);
+    store(list, 2, c);
 }
 
 /// The word from a place on, empty past the end.

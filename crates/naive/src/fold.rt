@@ -1,10 +1,12 @@
 //! The piece cut as a fold over the strict cut, from the last factor to the first: a factor is a piece of its own where it is less than the first
 //! piece of what follows at a letter that both have; otherwise it is joined to that piece.
+use super::access::ENTRIES;
 use super::access::entry;
 use super::access::letter;
 use super::access::plus;
 use super::access::store;
 use super::parts::part_start;
+use super::suffixes::strict_by_suffixes;
 
 // Whether the part from a to b is less than the part from b to e at a letter that both have.
 fn loses(word: &[u8], a: usize, b: usize, e: usize) -> bool {
@@ -54,14 +56,11 @@ fn keep(strict: &[u16], count: usize, marks: &[u16], ends: &mut [u16]) -> usize 
     kept
 }
 
-/// Writes the ends of the piece cut, from the first `count` ends of the strict cut. Answers their number.
-pub fn pieces_by_fold(
-    word: &[u8],
-    strict: &[u16],
-    count: usize,
-    marks: &mut [u16],
-    ends: &mut [u16],
-) -> usize {
-    mark(word, strict, count, marks);
-    keep(strict, count, marks, ends)
+/// Writes the ends of the piece cut. Answers their number.
+pub fn pieces_by_fold(word: &[u8], ends: &mut [u16]) -> usize {
+    let mut strict = [0u16; ENTRIES];
+    let mut marks = [0u16; ENTRIES];
+    let count = strict_by_suffixes(word, &mut strict);
+    mark(word, &strict, count, &mut marks);
+    keep(&strict, count, &marks, ends)
 }

@@ -1,4 +1,5 @@
 //! The piece cut by its recursive definition, for every suffix of the word from the shortest on.
+use super::access::ENTRIES;
 use super::access::entry;
 use super::access::minus;
 use super::access::plus;
@@ -46,8 +47,9 @@ fn walk(firsts: &[u16], n: usize, ends: &mut [u16]) -> usize {
     count
 }
 
-/// Writes the ends of the piece cut, and answers their number. `firsts` has as many entries as the word has letters.
-pub fn pieces_by_definition(word: &[u8], firsts: &mut [u16], ends: &mut [u16]) -> usize {
-    first_pieces(word, firsts);
-    walk(firsts, word.len(), ends)
+/// Writes the ends of the piece cut. Answers their number.
+pub fn pieces_by_definition(word: &[u8], ends: &mut [u16]) -> usize {
+    let mut firsts = [0u16; ENTRIES];
+    first_pieces(word, &mut firsts);
+    walk(&firsts, word.len(), ends)
 }

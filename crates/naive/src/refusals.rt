@@ -12,19 +12,9 @@ fn record_lines(n: usize, below: u8) -> u8 {
     line(n == 0, 1, line(4096 < n, 2, below))
 }
 
-/// The test, lent `work` entries.
-pub fn test_refusal(n: usize, work: usize) -> u8 {
-    record_lines(n, line(work < n, 3, 0))
-}
-
-/// The piece cut into `count` pieces, lent `work` and `ends` entries.
-pub fn cut_refusal(n: usize, work: usize, ends: usize, count: usize) -> u8 {
-    record_lines(n, line(work / 3 < n, 3, line(ends < count, 4, 0)))
-}
-
-/// A call that fills `count` entries and has no work buffer: the strict cut, the start table.
-pub fn filled_refusal(n: usize, entries: usize, count: usize) -> u8 {
-    record_lines(n, line(entries < count, 4, 0))
+/// A call that needs `needed` work entries and `count` result entries, lent `room` and `space` of them.
+pub fn lent_refusal(n: usize, needed: usize, room: usize, count: usize, space: usize) -> u8 {
+    record_lines(n, line(room < needed, 3, line(space < count, 4, 0)))
 }
 
 /// The comparison.

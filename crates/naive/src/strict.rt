@@ -44,11 +44,12 @@ pub fn strict_by_longest(word: &[u8], ends: &mut [u16]) -> usize {
     count
 }
 
-/// Writes the start table: the longest anti-Lyndon prefix at each place.
-pub fn starts_by_longest(word: &[u8], lengths: &mut [u16]) {
+/// Writes the start table: the longest anti-Lyndon prefix at each place. Answers its length.
+pub fn starts_by_longest(word: &[u8], lengths: &mut [u16]) -> usize {
     let mut i: usize = 0;
     while i < word.len() {
         store(lengths, i, longest_anti_lyndon(tail(word, i)));
         i += 1;
     }
+    i
 }

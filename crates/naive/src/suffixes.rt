@@ -1,5 +1,6 @@
 //! The strict cut and the start table by suffixes of the whole word: a longest anti-Lyndon word ends where the next suffix begins that comes before
 //! the suffix at its start.
+use super::access::ENTRIES;
 use super::access::entry;
 use super::access::minus;
 use super::access::plus;
@@ -47,15 +48,17 @@ fn settle(word: &[u8], lengths: &mut [u16], stack: &[u16], open: usize, i: usize
     left
 }
 
-/// Writes the start table. `stack` has as many entries as the word has letters.
-pub fn starts_by_suffixes(word: &[u8], lengths: &mut [u16], stack: &mut [u16]) {
+/// Writes the start table. Answers its length.
+pub fn starts_by_suffixes(word: &[u8], lengths: &mut [u16]) -> usize {
+    let mut stack = [0u16; ENTRIES];
     rests(word, lengths);
     let mut open: usize = 0;
     let mut i: usize = 0;
     while i < word.len() {
-        let left = settle(word, lengths, stack, open, i);
-        store(stack, left, i);
+        let left = settle(word, lengths, &stack, open, i);
+        store(&mut stack, left, i);
         open = plus(left, 1);
         i += 1;
     }
+    i
 }

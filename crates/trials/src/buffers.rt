@@ -1,75 +1,36 @@
-//! Buffers filled with a pattern before a call, and looked through after it.
+//! Buffers filled before a call, and looked through after it.
 use naive::entry;
-use naive::minus;
 use naive::plus;
 use naive::store;
 
-// What stands at a place before a call; never 0.
-fn pattern(salt: usize, i: usize) -> usize {
-    salt % 1000 + i % 250 * 257 + 1
-}
-
-/// Fills the whole buffer.
+/// Fills the whole buffer with the numbers above `salt`, one after the other.
 pub fn fill(list: &mut [u16], salt: usize) {
     let mut i: usize = 0;
     while i < list.len() {
-        store(list, i, pattern(salt, i));
         i += 1;
+        store(list, i - 1, plus(salt, i));
     }
 }
 
-/// Whether every entry from a place on is as it was filled.
-pub fn is_kept(list: &[u16], from: usize, salt: usize) -> bool {
-    let mut i = from;
+// What entry i is after a call that cleared so many entries and wrote these.
+fn left(i: usize, cleared: usize, written: &[u16], salt: usize) -> usize {
+    if i < cleared {
+        return 0;
+    }
+    if i < written.len() {
+        return entry(written, i);
+    }
+    plus(salt, plus(i, 1))
+}
+
+/// Whether the first entries are cleared, or are those written, and all later ones as they were filled.
+pub fn is_left(list: &[u16], cleared: usize, written: &[u16], salt: usize) -> bool {
+    let mut i: usize = 0;
     while i < list.len() {
-        if entry(list, i) != pattern(salt, i) {
+        if entry(list, i) != left(i, cleared, written, salt) {
             return false;
         }
         i += 1;
     }
-    true
-}
-
-// Whether the first n entries are 0.
-fn is_zero(list: &[u16], n: usize) -> bool {
-    let mut i: usize = 0;
-    while i < n {
-        if list.len() <= i || entry(list, i) != 0 {
-            return false;
-        }
-        i += 1;
-    }
-    true
-}
-
-/// Whether the first entries are those of `want`.
-pub fn begins(list: &[u16], want: &[u16]) -> bool {
-    let mut i: usize = 0;
-    while i < want.len() {
-        if list.len() <= i || entry(list, i) != entry(want, i) {
-            return false;
-        }
-        i += 1;
-    }
-    true
-}
-
-/// Whether the first n entries are cleared and the later ones kept.
-pub fn is_cleared(list: &[u16], n: usize, salt: usize) -> bool {
-    is_zero(list, n) && is_kept(list, n, salt)
-}
-
-/// Whether the first entries are those of `want` and the later ones kept.
-pub fn is_written(list: &[u16], want: &[u16], salt: usize) -> bool {
-    begins(list, want) && is_kept(list, want.len(), salt)
-}
-
-/// A number of entries at the boundary `needed`: none, one less, as many, one more.
-pub fn near(needed: usize, which: usize) -> usize {
-    match which {
-        0 => 0,
-        1 => minus(needed, 1),
-        2 => needed,
-        _ => plus(needed, 1),
-    }
+    cleared <= i && written.len() <= i
 }

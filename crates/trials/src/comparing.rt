@@ -1,12 +1,13 @@
-//! One call of the comparison, and random ones.
-use super::draw::draw;
-use super::tally;
+//! The comparison, and how far two words agree.
+use super::numbers::about;
+use super::run::Run;
+use super::run::draw;
 use compare::Comparison;
 use naive::minus;
 use naive::plus;
 
-/// Whether the comparison answers as the second implementation.
-pub fn comparison_is(word: &[u8], first: usize, end: usize, start: usize, other: usize) -> bool {
+// Whether the comparison answers as the second implementation.
+fn comparison_is(word: &[u8], first: usize, end: usize, start: usize, other: usize) -> bool {
     let answer = compare::compare_suffixes(word, first, end, start, other);
     let refused = naive::range_refusal(word.len(), first, end, start, other);
     match answer {
@@ -15,78 +16,54 @@ pub fn comparison_is(word: &[u8], first: usize, end: usize, start: usize, other:
     }
 }
 
-// Two random starts in a range.
-fn compare_in(word: &[u8], first: usize, end: usize, state: &mut usize, counts: &mut [u64]) {
-    let size = minus(end, first);
-    let start = plus(first, draw(state, size));
-    let other = plus(first, draw(state, size));
-    tally::note(
-        counts,
-        tally::COMPARE,
-        comparison_is(word, first, end, start, other),
-    );
+// In a range, with two starts at random.
+fn agrees_in(word: &[u8], first: usize, end: usize, run: &mut Run) -> bool {
+    let start = plus(first, draw(run, minus(end, first)));
+    let other = plus(first, draw(run, minus(end, first)));
+    comparison_is(word, first, end, start, other)
 }
 
-/// Random ranges, two starts in each.
-pub fn compare_some(word: &[u8], times: usize, state: &mut usize, counts: &mut [u64]) {
-    let mut i: usize = 0;
-    while i < times {
-        let first = draw(state, word.len());
-        let end = plus(plus(first, 1), draw(state, minus(word.len(), first)));
-        compare_in(word, first, end, state, counts);
-        i += 1;
+/// In a range at random, from case 8 on in one of whole parts.
+pub fn agrees(word: &[u8], ends: &[u16], code: usize, run: &mut Run) -> bool {
+    let many = if code < 8 { word.len() } else { ends.len() };
+    let from = draw(run, many);
+    let last = plus(from, draw(run, minus(many, from)));
+    if code < 8 {
+        return agrees_in(word, from, plus(last, 1), run);
     }
+    agrees_in(
+        word,
+        naive::part_start(ends, from),
+        naive::part_end(ends, last),
+        run,
+    )
 }
 
-/// Random ranges of whole pieces, two starts in each.
-pub fn compare_pieces(
-    word: &[u8],
-    ends: &[u16],
-    times: usize,
-    state: &mut usize,
-    counts: &mut [u64],
-) {
-    let mut i: usize = 0;
-    while i < times {
-        let from = draw(state, ends.len());
-        let last = plus(from, draw(state, minus(ends.len(), from)));
-        compare_in(
-            word,
-            naive::part_start(ends, from),
-            naive::part_end(ends, last),
-            state,
-            counts,
-        );
-        i += 1;
-    }
+/// How many cases there are at the boundaries of range and starts.
+pub const RANGES: usize = 1260;
+
+/// Case `code` of them.
+pub fn agrees_at_limits(word: &[u8], code: usize) -> bool {
+    let first = about(0, word.len(), code / 252 % 5);
+    let end = about(first, word.len(), code / 36 % 7);
+    let start = about(first, end, code / 6 % 6 + 2);
+    let other = about(first, end, code % 6 + 2);
+    comparison_is(word, first, end, start, other)
 }
 
-// The part of a word from a to b, empty where there is none.
-fn part(word: &[u8], a: usize, b: usize) -> &[u8] {
-    if b < a {
-        return &word[0..0];
+// A part at random.
+fn random_part<'a>(word: &'a [u8], run: &mut Run) -> &'a [u8] {
+    let from = naive::tail(word, draw(run, word.len()));
+    let size = draw(run, plus(from.len(), 1));
+    if from.len() < size {
+        return from;
     }
-    if word.len() < b {
-        return &word[0..0];
-    }
-    &word[a..b]
+    &from[0..size]
 }
 
-// A random part.
-fn random_part<'a>(word: &'a [u8], state: &mut usize) -> &'a [u8] {
-    let a = draw(state, word.len());
-    let b = plus(a, draw(state, plus(minus(word.len(), a), 1)));
-    part(word, a, b)
-}
-
-/// How far two random parts agree.
-pub fn common_some(word: &[u8], times: usize, state: &mut usize, counts: &mut [u64]) {
-    let mut i: usize = 0;
-    while i < times {
-        let x = random_part(word, state);
-        let y = random_part(word, state);
-        let same = compare::common_length(x, y) == naive::common(x, y);
-        tally::note(counts, tally::COMMON, same);
-        i += 1;
-    }
+/// How far two parts at random agree.
+pub fn common_agrees(word: &[u8], run: &mut Run) -> bool {
+    let x = random_part(word, run);
+    let y = random_part(word, run);
+    compare::common_length(x, y) == naive::common(x, y)
 }

@@ -1,28 +1,15 @@
-//! One call of the reader, of the summary.
-use super::tally;
+//! The reader and the summary.
+use super::numbers::about;
+use super::numbers::write_list;
+use naive::ENTRIES;
 use naive::entry;
-use naive::letter;
+use naive::front;
 use naive::minus;
-use naive::plus;
+use naive::tail;
 use reading::Summary;
 
-// Whether the part has just the letters of the word from a to b.
-fn is_part(part: &[u8], word: &[u8], a: usize, b: usize) -> bool {
-    if part.len() != minus(b, a) {
-        return false;
-    }
-    let mut i: usize = 0;
-    while i < part.len() {
-        if part[i] != letter(word, plus(a, i)) {
-            return false;
-        }
-        i += 1;
-    }
-    true
-}
-
 /// Whether the reader gives the part, or the refusal beside an empty one.
-pub fn part_is(word: &[u8], ends: &[u16], number: usize) -> bool {
+pub fn part_agrees(word: &[u8], ends: &[u16], number: usize) -> bool {
     let mut told: u8 = 200;
     let part = reading::factor_at(word, ends, number, &mut told);
     let refused = naive::part_refusal(word.len(), ends, number);
@@ -32,33 +19,16 @@ pub fn part_is(word: &[u8], ends: &[u16], number: usize) -> bool {
     if refused != 0 {
         return part.len() == 0;
     }
-    is_part(
-        part,
-        word,
-        naive::part_start(ends, number),
-        naive::part_end(ends, number),
-    )
+    let from = naive::part_start(ends, number);
+    let size = minus(naive::part_end(ends, number), from);
+    part.len() == size && naive::common(part, tail(word, from)) == size
 }
 
-/// The reader on every part.
-pub fn read_all(word: &[u8], ends: &[u16], counts: &mut [u64]) {
-    let mut number: usize = 0;
-    while number < ends.len() {
-        tally::note(counts, tally::PART, part_is(word, ends, number));
-        number += 1;
-    }
-}
-
-// Whether the thirteen counts are those of the parts, all 0 beside a refusal.
-fn are_bands(bands: &[u16], ends: &[u16], refused: u8) -> bool {
+// Whether the thirteen counts are those of the parts.
+fn are_bands(bands: &[u16], ends: &[u16]) -> bool {
     let mut k: usize = 0;
     while k < 13 {
-        let want = if refused == 0 {
-            naive::in_band(ends, k + 1)
-        } else {
-            0
-        };
-        if entry(bands, k) != want {
+        if entry(bands, k) != naive::in_band(ends, k + 1) {
             return false;
         }
         k += 1;
@@ -72,23 +42,33 @@ fn has(summary: Summary, refused: u8, count: usize, longest: usize, from: usize)
     numbered && (summary.longest as usize) == longest && (summary.from as usize) == from
 }
 
-/// Whether the summary is that of the parts, or the refusal beside zeros.
-pub fn summary_is(word: &[u8], ends: &[u16]) -> bool {
+/// Whether the summary is that of the parts, or the refusal beside that of no parts, which is 0 throughout.
+pub fn summary_agrees(word: &[u8], ends: &[u16]) -> bool {
     let summary = reading::summarize(word, ends);
     let refused = naive::summary_refusal(word.len(), ends);
+    let parts = front(ends, if refused == 0 { ends.len() } else { 0 });
+    let longest = naive::longest(parts);
     let bands = summary.bands;
-    if !are_bands(&bands, ends, refused) {
-        return false;
-    }
-    if refused != 0 {
-        return has(summary, refused, 0, 0, 0);
-    }
-    let longest = naive::longest(ends);
     has(
         summary,
-        0,
-        ends.len(),
+        refused,
+        parts.len(),
         longest,
-        naive::earliest(ends, longest),
+        naive::earliest(parts, longest),
     )
+        && are_bands(&bands, parts)
+}
+
+/// The reader on list `code` / 5 of those with faults, at one of five numbers about the number of its ends.
+pub fn part_agrees_at_limits(word: &[u8], code: usize) -> bool {
+    let mut list = [0u16; ENTRIES];
+    let count = write_list(&mut list, word.len(), code / 5);
+    part_agrees(word, front(&list, count), about(0, count, code % 5 + 1))
+}
+
+/// The summary of list `code`.
+pub fn summary_agrees_at_limits(word: &[u8], code: usize) -> bool {
+    let mut list = [0u16; ENTRIES];
+    let count = write_list(&mut list, word.len(), code);
+    summary_agrees(word, front(&list, count))
 }

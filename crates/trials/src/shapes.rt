@@ -1,9 +1,24 @@
 //! Records of a shape, written to the first n letters.
-use super::draw::draw;
+use super::run::Run;
+use super::run::draw;
 use naive::letter;
 use naive::minus;
 use naive::plus;
 use naive::set_letter;
+
+/// What the letters of a record are.
+pub enum Shape {
+    /// At random over so many letters for one period, and then repeated.
+    Periodic { letters: usize, period: usize },
+    /// In about one place of four a letter at random, elsewhere the one before it.
+    Plateaus { letters: usize },
+    /// Rising: the next letter after every `width` + 1 places.
+    Rising { width: usize },
+    /// Falling in the same way.
+    Falling { width: usize },
+    /// c^k a c^k b.
+    Powers,
+}
 
 /// The word of a number in the list of all words over a, b, .. by length: 1 is a, and the digits are those of the bijective numeration. Answers its length.
 pub fn spell(word: &mut [u8], letters: usize, number: usize) -> usize {
@@ -23,65 +38,52 @@ pub fn spell(word: &mut [u8], letters: usize, number: usize) -> usize {
     i
 }
 
-// Letters at random.
-fn scatter(word: &mut [u8], n: usize, letters: usize, state: &mut usize) {
+// Letter i at random, or that of one period before.
+fn periodic(word: &[u8], i: usize, letters: usize, period: usize, run: &mut Run) -> usize {
+    let new = draw(run, letters);
+    if i < period || period == 0 {
+        new
+    } else {
+        letter(word, minus(i, period)) as usize
+    }
+}
+
+// Letter i at random, or as the one before it.
+fn plateau(word: &[u8], i: usize, letters: usize, run: &mut Run) -> usize {
+    let new = draw(run, letters);
+    if draw(run, 4) == 0 {
+        new
+    } else {
+        letter(word, minus(i, 1)) as usize
+    }
+}
+
+// Letter i of c^k a c^k b.
+fn power(n: usize, i: usize) -> usize {
+    if i == minus(n, 1) {
+        return 98;
+    }
+    if i == minus(n, 2) / 2 { 97 } else { 99 }
+}
+
+// Letter i of n.
+fn letter_of(word: &[u8], n: usize, i: usize, shape: Shape, run: &mut Run) -> usize {
+    match shape {
+        Shape::Periodic { letters, period } => periodic(word, i, letters, period, run),
+        Shape::Plateaus { letters } => plateau(word, i, letters, run),
+        Shape::Rising { width } => i / (width % 256 + 1),
+        Shape::Falling { width } => minus(255, i / (width % 256 + 1)),
+        Shape::Powers => power(n, i),
+    }
+}
+
+/// Writes a record of n letters. Answers n.
+pub fn write(word: &mut [u8], n: usize, shape: Shape, run: &mut Run) -> usize {
     let mut i: usize = 0;
     while i < n {
-        set_letter(word, i, draw(state, letters));
+        let value = letter_of(word, n, i, shape, run);
+        set_letter(word, i, value);
         i += 1;
     }
-}
-
-// From the letter at `period` on, each repeats the one `period` places before it.
-fn repeat(word: &mut [u8], n: usize, period: usize) {
-    let mut i = period;
-    while i < n {
-        let before = letter(word, minus(i, period));
-        set_letter(word, i, before as usize);
-        i += 1;
-    }
-}
-
-/// Letters at random for one period, and then repeated.
-pub fn repeated(word: &mut [u8], n: usize, letters: usize, period: usize, state: &mut usize) {
-    scatter(word, n, letters, state);
-    repeat(word, n, period);
-}
-
-/// Rising, or falling: the next letter after every `width` places.
-pub fn ramp(word: &mut [u8], n: usize, width: usize, rising: bool) {
-    let mut i: usize = 0;
-    while i < n {
-        let height = i / (width % 4096 + 1);
-        set_letter(word, i, if rising { height } else { minus(255, height) });
-        i += 1;
-    }
-}
-
-/// Plateaus: in about one place of four a new letter, elsewhere the one before it.
-pub fn plateaus(word: &mut [u8], n: usize, letters: usize, state: &mut usize) {
-    let mut i: usize = 0;
-    while i < n {
-        let old = letter(word, minus(i, 1)) as usize;
-        let new = draw(state, letters);
-        set_letter(word, i, if draw(state, 4) == 0 { new } else { old });
-        i += 1;
-    }
-}
-
-/// c^k a c^k b.
-pub fn two_powers(word: &mut [u8], n: usize) {
-    let mut i: usize = 0;
-    while i < n {
-        set_letter(word, i, 99);
-        i += 1;
-    }
-    set_letter(word, minus(n, 2) / 2, 97);
-    set_letter(word, minus(n, 1), 98);
-}
-
-/// A new letter at one place.
-pub fn disturb(word: &mut [u8], n: usize, letters: usize, state: &mut usize) {
-    let at = draw(state, n);
-    set_letter(word, at, draw(state, letters));
+    n
 }

@@ -1,0 +1,125 @@
+//! The groups of records, and the calls that are made on each.
+use super::records::length_at;
+use super::records::random_record;
+use super::records::shape_at;
+use naive::Call;
+use naive::ENTRIES;
+use naive::front;
+use naive::plus;
+use trials::Run;
+use trials::spell;
+use trials::try_cases;
+use trials::write;
+
+/// Records of a kind, with the calls that are made on them.
+pub enum Group {
+    /// The words over so many letters, the shorter ones first; all calls.
+    Words { letters: usize },
+    /// Pseudo-random records of up to so many letters; all calls.
+    Random { most: usize },
+    /// Eight shapes of 4,095, 4,096 and 4,097 letters; all calls.
+    Long,
+    /// Eight shapes of each length at the boundaries; the calls that are lent buffers, at the boundaries of the refusals 1 to 4.
+    Lent,
+    /// A record of each length at the boundaries; the comparison, at the boundaries of range and starts.
+    Ranges,
+    /// A record of each length at the boundaries; the reader and the summary, on lists with faults.
+    Lists,
+}
+
+// One of eight shapes of a length at the boundaries.
+fn shaped(word: &mut [u8], length: usize, shape: usize, run: &mut Run) -> usize {
+    let n = length_at(length);
+    write(word, n, shape_at(shape, n), run)
+}
+
+// Writes record i of a group. Answers its length.
+fn write_record(group: Group, i: usize, word: &mut [u8], run: &mut Run) -> usize {
+    match group {
+        Group::Words { letters } => spell(word, letters, plus(i, 1)),
+        Group::Random { most } => random_record(word, most, run),
+        Group::Long => shaped(word, 4 + i % 3, i / 3, run),
+        Group::Lent => shaped(word, i % 7, i / 7, run),
+        _ => shaped(word, i, 1, run),
+    }
+}
+
+// The first cases of one call.
+fn on_call(call: Call, limits: bool, many: usize, word: &[u8], run: &mut Run) {
+    let mut list = [0u16; ENTRIES];
+    let count = naive::answer(call, word, &mut list);
+    try_cases(call, limits, many, word, front(&list, count), run);
+}
+
+// The reader and the summary on a list of ends.
+fn on_ends(word: &[u8], ends: &[u16], run: &mut Run) {
+    try_cases(Call::Part, false, ends.len(), word, ends, run);
+    try_cases(Call::Summary, false, 1, word, ends, run);
+}
+
+// The strict cut, and what goes by its ends.
+fn on_strict(word: &[u8], run: &mut Run) {
+    let mut list = [0u16; ENTRIES];
+    let count = naive::answer(Call::Strict, word, &mut list);
+    let ends = front(&list, count);
+    try_cases(Call::Strict, false, 1, word, ends, run);
+    on_ends(word, ends, run);
+}
+
+// The piece cut, and what goes by its ends: the comparison too, which has 8 ranges of its own and 4 of whole pieces.
+fn on_pieces(word: &[u8], run: &mut Run) {
+    let mut list = [0u16; ENTRIES];
+    let count = naive::answer(Call::Pieces, word, &mut list);
+    let ends = front(&list, count);
+    try_cases(Call::Pieces, false, 1, word, ends, run);
+    on_ends(word, ends, run);
+    try_cases(Call::Compare, false, 12, word, ends, run);
+    try_cases(Call::Common, false, 4, word, ends, run);
+}
+
+// All calls.
+fn on_record(word: &[u8], run: &mut Run) {
+    on_call(Call::Test, false, 1, word, run);
+    on_call(Call::Starts, false, 1, word, run);
+    on_strict(word, run);
+    on_pieces(word, run);
+}
+
+// The calls that are lent buffers, at the boundaries of their refusals.
+fn on_lent(word: &[u8], run: &mut Run) {
+    on_call(Call::Test, true, 4, word, run);
+    on_call(Call::Pieces, true, 16, word, run);
+    on_call(Call::Strict, true, 4, word, run);
+    on_call(Call::Starts, true, 4, word, run);
+}
+
+// The calls of a group.
+fn on_word(group: Group, word: &[u8], run: &mut Run) {
+    match group {
+        Group::Lent => on_lent(word, run),
+        Group::Ranges => on_call(Call::Compare, true, trials::RANGES, word, run),
+        Group::Lists => {
+            on_call(Call::Part, true, 5 * trials::LISTS, word, run);
+            on_call(Call::Summary, true, trials::LISTS, word, run);
+        }
+        _ => on_record(word, run),
+    }
+}
+
+// Record i of a group.
+fn try_record(group: Group, i: usize, run: &mut Run) {
+    let mut word = [0u8; 4100];
+    let n = write_record(group, i, &mut word, run);
+    if n <= word.len() {
+        on_word(group, &word[0..n], run);
+    }
+}
+
+/// The first `many` records of a group.
+pub fn try_group(group: Group, many: usize, run: &mut Run) {
+    let mut i: usize = 0;
+    while i < many {
+        try_record(group, i, run);
+        i += 1;
+    }
+}

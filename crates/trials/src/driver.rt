@@ -1,0 +1,43 @@
+//! So many cases of a call on one record.
+use super::comparing;
+use super::lending;
+use super::parting;
+use super::run::Run;
+use super::run::note;
+use naive::Call;
+
+// Whether the call and the second implementation agree on case `code`.
+fn agrees(call: Call, word: &[u8], list: &[u16], code: usize, run: &mut Run) -> bool {
+    match call {
+        Call::Compare => comparing::agrees(word, list, code, run),
+        Call::Common => comparing::common_agrees(word, run),
+        Call::Part => parting::part_agrees(word, list, code),
+        Call::Summary => parting::summary_agrees(word, list),
+        _ => lending::agrees(call, word, list),
+    }
+}
+
+// The same at the boundaries of the refusals.
+fn agrees_at_limits(call: Call, word: &[u8], list: &[u16], code: usize) -> bool {
+    match call {
+        Call::Compare => comparing::agrees_at_limits(word, code),
+        Call::Part => parting::part_agrees_at_limits(word, code),
+        Call::Summary => parting::summary_agrees_at_limits(word, code),
+        _ => lending::agrees_at_limits(call, word, list, code),
+    }
+}
+
+/// The first `many` cases of a call, at the boundaries of its refusals or not. The list is what a call that is lent buffers should answer, and the ends
+/// that comparison, reader and summary go by.
+pub fn try_cases(call: Call, limits: bool, many: usize, word: &[u8], list: &[u16], run: &mut Run) {
+    let mut code: usize = 0;
+    while code < many {
+        let agreed = if limits {
+            agrees_at_limits(call, word, list, code)
+        } else {
+            agrees(call, word, list, code, run)
+        };
+        note(run, call, limits, agreed);
+        code += 1;
+    }
+}
