@@ -18,7 +18,7 @@ function row_of(call, record) {
 function bar_of(row) {
     return row ~ /metsroeb_(factor|summarize)|ends at once/ ? 1.25 : 1.00
 }
-# A bar that is known to be missed (DECISIONS 30): the run fails only above this.
+# A bar that is known to be missed (docs/DECISIONS.md, the summary): the run fails only above this.
 function limit_of(row) {
     return row ~ /one or two parts/ ? 1.65 : bar_of(row)
 }

@@ -7,10 +7,11 @@ mod printing; // the lines that are printed
 use groups::Group;
 use groups::try_group;
 use trials::Run;
+use trials::STATE;
 
 fn main() {
-    let mut run: Run = [0; 33];
-    run[32] = 20011;
+    let mut run: Run = [0; STATE + 1];
+    run[STATE] = 20011;
     try_group(Group::Words { letters: 2 }, 1022, &mut run);
     try_group(Group::Words { letters: 3 }, 1092, &mut run);
     try_group(Group::Random { most: 300 }, 3000, &mut run);

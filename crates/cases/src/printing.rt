@@ -3,10 +3,11 @@ use libc::STDOUT_FILENO;
 use naive::Call;
 use naive::plus;
 use trials::Run;
+use trials::STATE;
 use trials::place;
 
 fn print_count(run: &Run, at: usize) {
-    if at < 32 {
+    if at < STATE {
         io::print_decimal(STDOUT_FILENO, run[at] as u64);
     }
 }

@@ -12,6 +12,7 @@ pub use comparing::RANGES;
 pub use driver::try_cases;
 pub use numbers::LISTS;
 pub use run::Run;
+pub use run::STATE;
 pub use run::draw;
 pub use run::place;
 pub use shapes::Shape;

@@ -3,13 +3,19 @@
 use naive::Call;
 use naive::plus;
 
-/// Two counts for each call, then two for its cases at the boundaries of the refusals, and the generator's state.
-pub type Run = [usize; 33];
+// How many calls are compared.
+const CALLS: usize = 8;
+
+/// Where the generator's state stands: after two counts for each call, and two for its cases at the boundaries of the refusals.
+pub const STATE: usize = 4 * CALLS;
+
+/// The counts and the state.
+pub type Run = [usize; STATE + 1];
 
 /// The next number of the linear congruential generator with the multiplier 48,271 and the modulus 2^31 − 1, reduced below `below`.
 pub fn draw(run: &mut Run, below: usize) -> usize {
-    let next = (run[32] % 2147483647) * 48271 % 2147483647;
-    run[32] = next;
+    let next = (run[STATE] % 2147483647) * 48271 % 2147483647;
+    run[STATE] = next;
     if below == 0 {
         return 0;
     }
@@ -28,13 +34,13 @@ pub fn place(call: Call, limits: bool) -> usize {
         Call::Part => 12,
         Call::Summary => 14,
     };
-    if limits { plus(number, 16) } else { number }
+    if limits { plus(number, 2 * CALLS) } else { number }
 }
 
 /// Counts one case.
 pub fn note(run: &mut Run, call: Call, limits: bool, agreed: bool) {
     let at = plus(place(call, limits), if agreed { 0 } else { 1 });
-    if at < 32 {
+    if at < STATE {
         run[at] = plus(run[at], 1);
     }
 }
