@@ -13,7 +13,7 @@ use Rattle.checks.specs.declared.Checked.the-variants.{Passed, Refused}
 use Rattle.checks.specs.Lines.{tried, decided}
 use Rattle.reading.specs.declared.summary.Summary.{Summary}
 use Rattle.reading.specs.Summary.{summaryLines, lengthsFrom, bitLength, countOf, bandsOf, emptySummary, summaryOf, Summarized}
-use Rattle.reading.proofs.FactorLaws.{Listed, listed}
+use Rattle.reading.proofs.FactorLaws.{EndsAccepted, ends-admitted}
 use Rattle.reading.proofs.BitLengths.{bit-length-most, bit-length-some}
 use Rattle.reading.proofs.SummaryLaws.{bandsFrom, countsFrom, count-here, count-other, bands-are-counts}
 
@@ -55,8 +55,8 @@ bands-sum n es r l = rw (bands-are-counts es) (bands-sum-from r l)
 -- beside a refusal all are 0
 pub summary-bands-sum : {w es : List ℕ} {r : Summary} → Summarized w es r → sum _+_ 0 (r .bands) ≡ r .count
 unfolding sum summaryOf
-summary-bands-sum {w} {es} s = rw (s .answer) (go (tried (summaryLines w es)) (listed w es))
+summary-bands-sum {w} {es} s = rw (s .answer) (go (tried (summaryLines w es)) (ends-admitted w es))
   where
-    go : (k : Checked) → (k ≡ Passed → Listed w es) → sum _+_ 0 (decided k (summaryOf es) emptySummary .bands) ≡ decided k (summaryOf es) emptySummary .count
+    go : (k : Checked) → (k ≡ Passed → EndsAccepted w es) → sum _+_ 0 (decided k (summaryOf es) emptySummary .bands) ≡ decided k (summaryOf es) emptySummary .count
     go Passed g = bands-sum (length w) es (g refl .rises) (g refl .letters)
     go (Refused e) g = refl

@@ -29,16 +29,16 @@ placed w es k e =
     record { listed = l; ordered = rises-at r k l .0; inside = rises-inside r k }
 
 -- a record that is not too long, and ends that rise to its length
-pub record Listed (w es : List ℕ) : Type 0 where
+pub record EndsAccepted (w es : List ℕ) : Type 0 where
   pub letters : length w ≤ mostLetters
   pub rises : Rises (length w) 0 es
 
-pub listed : (w es : List ℕ) → tried (summaryLines w es) ≡ Passed → Listed w es
-listed w es e =
+pub ends-admitted : (w es : List ℕ) → tried (summaryLines w es) ≡ Passed → EndsAccepted w es
+ends-admitted w es e =
     let u = unmet (summaryLines w es) e in
     record { letters = accepted w _ e .short; rises = ends-accepted es (length w) (u .1 .1 .0) .rises }
 
-pub summable : {w es : List ℕ} → Listed w es → Summable es
+pub summable : {w es : List ℕ} → EndsAccepted w es → Summable es
 summable v = record {
   rising = λ k l. rises-at (v .rises) k l .0;
   short = λ k. omega (arith, rises-inside (v .rises) k, v .letters);

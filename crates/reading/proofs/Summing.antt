@@ -1,6 +1,6 @@
 -- The loop of sum_up over plain lists: what it has of the parts before a, taken together with the parts that follow, is the definition's value
--- for the whole list. Longest: the greatest length and where it begins. Banded: the thirteen counts. Each has a law for the start, for one more
--- part, of length e - a, and for the end. Going: both, for the ends up to i.
+-- for the whole list. LongestSoFar: the greatest length and where it begins. Banded: the thirteen counts. Each has a law for the start, for one more
+-- part, of length e - a, and for the end. SummedUpTo: both, for the ends up to i.
 use mathlib.Core.Path.{_≡_, refl, sym, _∙_}
 use mathlib.Core.List.{List, [], _∷_}
 use Prim.Native.Nat.{ℕ, suc, _+_, _-_, _≤_, _<_, max}
@@ -19,7 +19,7 @@ abbrev longestOf : List ℕ → ℕ
 longestOf es = greatest (lengthsFrom 0 es)
 
 -- the parts that follow begin at a and end at rs
-pub record Longest (es : List ℕ) (longest from a : ℕ) (rs : List ℕ) : Type 0 where
+pub record LongestSoFar (es : List ℕ) (longest from a : ℕ) (rs : List ℕ) : Type 0 where
   pub most : max longest (greatest (lengthsFrom a rs)) ≡ longestOf es
   -- no later part is longer, or the earliest of the longest is among the later ones
   pub settled : greatest (lengthsFrom a rs) ≤ longest → from ≡ startOf (longestOf es) 0 es
@@ -31,15 +31,15 @@ unfolding lengthsFrom greatest startOf
 from-none [] h = refl
 from-none (e ∷ es) h = sym (start-here (longestOf (e ∷ es)) 0 e es (omega arith))
 
-longest-start : (es : List ℕ) → Longest es 0 0 0 es
+longest-start : (es : List ℕ) → LongestSoFar es 0 0 0 es
 longest-start es = record { most = omega arith; settled = from-none es; ahead = λ h. refl }
 
-module _ {es rs : List ℕ} {longest from a e : ℕ} (g : Longest es longest from a (e ∷ rs)) where
+module _ {es rs : List ℕ} {longest from a e : ℕ} (g : LongestSoFar es longest from a (e ∷ rs)) where
   most-next : max longest (max (e - a) (greatest (lengthsFrom e rs))) ≡ longestOf es
   unfolding lengthsFrom greatest
   most-next = g .most
 
-  longest-kept : e - a ≤ longest → Longest es longest from e rs
+  longest-kept : e - a ≤ longest → LongestSoFar es longest from e rs
   unfolding lengthsFrom greatest
   longest-kept h = record {
     most = omega (arith, most-next);
@@ -47,7 +47,7 @@ module _ {es rs : List ℕ} {longest from a e : ℕ} (g : Longest es longest fro
     ahead = λ l. sym (start-later (longestOf es) a e rs (λ z. omega (arith, most-next))) ∙ g .ahead (omega arith);
   }
 
-  longest-replaced : longest < e - a → Longest es (e - a) a e rs
+  longest-replaced : longest < e - a → LongestSoFar es (e - a) a e rs
   unfolding lengthsFrom greatest
   longest-replaced h = record {
     most = omega (arith, most-next);
@@ -95,50 +95,50 @@ banded-end es bands a g =
 
 -- ---- the loop
 
-pub record Going (es : List ℕ) (longest from : ℕ) (bands : List ℕ) (last i : ℕ) : Type 0 where
+pub record SummedUpTo (es : List ℕ) (longest from : ℕ) (bands : List ℕ) (last i : ℕ) : Type 0 where
   pub inside : i ≤ length es
   pub last-is : last ≡ getD (0 ∷ es) i 0
-  pub longest-is : Longest es longest from last (drop i es)
+  pub longest-is : LongestSoFar es longest from last (drop i es)
   pub bands-are : Banded es bands last (drop i es)
 
-pub going-start : (es : List ℕ) → Going es 0 0 (replicate 13 0) 0 0
-going-start es = record { inside = omega arith; last-is = refl; longest-is = longest-start es; bands-are = banded-start es }
+pub summed-start : (es : List ℕ) → SummedUpTo es 0 0 (replicate 13 0) 0 0
+summed-start es = record { inside = omega arith; last-is = refl; longest-is = longest-start es; bands-are = banded-start es }
 
-module _ {es bands : List ℕ} {longest from last i : ℕ} (g : Going es longest from bands last i) where
+module _ {es bands : List ℕ} {longest from last i : ℕ} (g : SummedUpTo es longest from bands last i) where
   -- another part can be counted
-  pub going-room : (k : ℕ) → k < 13 → getD bands k 0 ≤ length es
-  going-room k l = omega (arith, g .bands-are .counts k l, count-most (suc k) 0 es)
+  pub summed-room : (k : ℕ) → k < 13 → getD bands k 0 ≤ length es
+  summed-room k l = omega (arith, g .bands-are .counts k l, count-most (suc k) 0 es)
 
   module _ (l : i < length es) where
-    pub going-above : Summable es → last < getD es i 0
-    going-above s = rw (g .last-is) (s .rising i l)
+    pub summed-above : Summable es → last < getD es i 0
+    summed-above s = rw (g .last-is) (s .rising i l)
 
-    next-longest : Longest es longest from last (getD es i 0 ∷ drop (suc i) es)
+    next-longest : LongestSoFar es longest from last (getD es i 0 ∷ drop (suc i) es)
     next-longest = rw (drop-cons es i 0 l) at (g .longest-is)
 
     next-bands : Banded es bands last (getD es i 0 ∷ drop (suc i) es)
     next-bands = rw (drop-cons es i 0 l) at (g .bands-are)
 
     module _ (digits : ℕ) (b : digits ≡ bitLength (getD es i 0 - last)) (p : 0 < digits) where
-      going-next : (m f : ℕ) → Longest es m f (getD es i 0) (drop (suc i) es) → Going es m f (countedAt (digits - 1) bands) (getD es i 0) (i + 1)
-      going-next m f n = record {
+      summed-next : (m f : ℕ) → LongestSoFar es m f (getD es i 0) (drop (suc i) es) → SummedUpTo es m f (countedAt (digits - 1) bands) (getD es i 0) (i + 1)
+      summed-next m f n = record {
         inside = omega arith;
         last-is = rw (add-one i);
         longest-is = rw (add-one i) n;
         bands-are = rw (add-one i) (banded-next digits next-bands b p);
       }
 
-      pub going-kept : getD es i 0 - last ≤ longest → Going es longest from (countedAt (digits - 1) bands) (getD es i 0) (i + 1)
-      going-kept h = going-next longest from (longest-kept next-longest h)
+      pub summed-kept : getD es i 0 - last ≤ longest → SummedUpTo es longest from (countedAt (digits - 1) bands) (getD es i 0) (i + 1)
+      summed-kept h = summed-next longest from (longest-kept next-longest h)
 
-      pub going-replaced : longest < getD es i 0 - last → Going es (getD es i 0 - last) last (countedAt (digits - 1) bands) (getD es i 0) (i + 1)
-      going-replaced h = going-next _ last (longest-replaced next-longest h)
+      pub summed-replaced : longest < getD es i 0 - last → SummedUpTo es (getD es i 0 - last) last (countedAt (digits - 1) bands) (getD es i 0) (i + 1)
+      summed-replaced h = summed-next _ last (longest-replaced next-longest h)
 
-  pub going-end : length es ≤ i → record { refusal = 0; count = i; longest = longest; from = from; bands = bands } ≡ summaryOf es
+  pub summed-end : length es ≤ i → record { refusal = 0; count = i; longest = longest; from = from; bands = bands } ≡ summaryOf es
   unfolding summaryOf lengthsFrom greatest
-  going-end l =
+  summed-end l =
       let none = drop-of-length-le es {i = i} l in
-      let n : Longest es longest from last [] = rw none at (g .longest-is) in
+      let n : LongestSoFar es longest from last [] = rw none at (g .longest-is) in
       let count : i ≡ length es = omega (arith, g .inside) in
       let most : longest ≡ longestOf es = omega (arith, n .most) in
       let start = n .settled (omega arith) in

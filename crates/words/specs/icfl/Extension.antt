@@ -12,7 +12,7 @@ use Rattle.words.specs.Words.{_≪_, _⊑_, done, step, InverseLyndon}
 use Rattle.words.specs.Factorizations.{joinFirst}
 use Rattle.words.specs.Statements.{DominatedBy, Next, end, by, more}
 use Rattle.words.specs.orders.PrefixLaws.{⊑-refl, ⊑-trans, ⊑-both, ⊑-append, ⊑-drop, ⊑-under, ⊑-split}
-use Rattle.words.specs.orders.MismatchLaws.{≪-asym, ≪-not-⊑, ≪-extend, ≪-cancel, ≪-left-nonempty, Compared, less, greater, within, beyond, compared}
+use Rattle.words.specs.orders.MismatchLaws.{≪-asym, ≪-not-⊑, ≪-extend, ≪-cancel, ≪-left-nonempty, Related, less, greater, within, beyond, related}
 use Rattle.words.specs.orders.LexLaws.{_≤ₗ_, pre, ≤ₗ-not-≪, ≤ₗ-≪-long, ≤ₗ-≪-prefix, ≤ₗ-prefixes}
 use Rattle.words.specs.orders.Decisions.{Decides, holds, fails, leb-test}
 use Rattle.words.specs.lyndon.WordTests.{suffix-below, inverse-lyndon}
@@ -24,9 +24,9 @@ prefix-inverse-lyndon {x} p l k = inverse-lyndon l (λ i. ≤ₗ-prefixes (⊑-d
 
 -- x, followed by a prefix of the inverse Lyndon word s, is below s by a mismatch: so is x alone
 below-alone : {x z s : List ℕ} → InverseLyndon s → z ⊑ s → (x ++ z) ≪ s → x ≪ s
-below-alone {x} {z} {s} k p h = go (compared x s)
+below-alone {x} {z} {s} k p h = go (related x s)
   where
-    go : Compared x s → x ≪ s
+    go : Related x s → x ≪ s
     go (less l) = l
     go (greater l) = absurd (≪-asym h (≪-extend l (⊑-refl s) (⊑-append x z)))
     go (beyond l m) = absurd (≤ₗ-not-≪ (pre (⊑-trans l (⊑-append x z))) h)
@@ -57,9 +57,9 @@ module _ {w p r : List ℕ} {b : ℕ} {q : List ℕ} (k : Extension w p r b q) w
 
   -- source 004, Lemma 4.1
   pub extension-prefix : r ⊑ p
-  extension-prefix = go (compared r p)
+  extension-prefix = go (related r p)
     where
-      go : Compared r p → r ⊑ p
+      go : Related r p → r ⊑ p
       go (within h) = h
       go (less h) = absurd (≪-asym extension-below (≪-extend h (⊑-append r _) (⊑-refl p)))
       go (greater h) = absurd (≤ₗ-not-≪ (rw drop-append-seam at (suffix-below (k .front) (length p))) (≪-extend h (⊑-append p r) (⊑-refl r)))

@@ -6,7 +6,7 @@ use native.Mathlib.Omega.{arith}
 use lib.ListN.{length}
 use Rattle.words.specs.Words.{_≪_, here, there, _⊑_, done, step, proper, _≺_, prefix, mismatch}
 use Rattle.words.specs.orders.PrefixLaws.{⊑-refl, ⊑-trans, ⊑-length, ⊑-whole}
-use Rattle.words.specs.orders.MismatchLaws.{≪-trans, ≪-asym, ≪-not-⊑, ≪-extend, Compared, less, greater, within, beyond, compared}
+use Rattle.words.specs.orders.MismatchLaws.{≪-trans, ≪-asym, ≪-not-⊑, ≪-extend, Related, less, greater, within, beyond, related}
 
 infix 40 _≼_
 pub data _≼_ (x y : List ℕ) : Type 0 where
@@ -61,9 +61,9 @@ pub ≼-≺ : {x y : List ℕ} → x ≼ y → ¬ (length x ≡ length y) → x 
 ≼-≺ (pre h) n = prefix (proper h (omega (arith, ⊑-length h)))
 
 pub not-≺-≼ : (x y : List ℕ) → ¬ (x ≺ y) → y ≼ x
-not-≺-≼ x y n = go (compared y x)
+not-≺-≼ x y n = go (related y x)
   where
-    go : Compared y x → y ≼ x
+    go : Related y x → y ≼ x
     go (less h) = absurd (n (mismatch h))
     go (greater h) = won h
     go (within h) = pre h

@@ -5,7 +5,7 @@ use native.Mathlib.Omega.{arith}
 use lib.ListN.{length, length-append}
 use Rattle.words.specs.Words.{_≪_, here, there, _⊑_, done, step, proper, _<ₗ_, prefix, mismatch}
 use Rattle.words.specs.orders.PrefixLaws.{⊑-refl, ⊑-length, ⊑-both, ⊑-under}
-use Rattle.words.specs.orders.MismatchLaws.{≪-trans, ≪-asym, ≪-not-⊑, ≪-extend, ≪-under, Compared, less, greater, within, beyond, compared}
+use Rattle.words.specs.orders.MismatchLaws.{≪-trans, ≪-asym, ≪-not-⊑, ≪-extend, ≪-under, Related, less, greater, within, beyond, related}
 
 infix 40 _≤ₗ_
 pub data _≤ₗ_ (x y : List ℕ) : Type 0 where
@@ -48,18 +48,18 @@ pub ≤ₗ-≪-prefix : {x y m z : List ℕ} → x ≤ₗ y → m ⊑ y → m �
 
 -- prefixes of two words are in the order of the words, if the first is no longer
 pub ≤ₗ-prefixes : {x x′ y y′ : List ℕ} → x ⊑ x′ → y ⊑ y′ → x′ ≤ₗ y′ → length x ≤ length y → x ≤ₗ y
-≤ₗ-prefixes {x} {y} p q h l = go (compared x y)
+≤ₗ-prefixes {x} {y} p q h l = go (related x y)
   where
-    go : Compared x y → x ≤ₗ y
+    go : Related x y → x ≤ₗ y
     go (less k) = lost k
     go (within k) = pre k
     go (greater k) = absurd (≤ₗ-not-≪ h (≪-extend k q p))
     go (beyond k b) = absurd (omega arith)
 
 pub ≤ₗ-cancel : (t : List ℕ) {x y : List ℕ} → (t ++ x) ≤ₗ (t ++ y) → x ≤ₗ y
-≤ₗ-cancel t {x} {y} h = go (compared x y)
+≤ₗ-cancel t {x} {y} h = go (related x y)
   where
-    go : Compared x y → x ≤ₗ y
+    go : Related x y → x ≤ₗ y
     go (less k) = lost k
     go (within k) = pre k
     go (greater k) = absurd (≤ₗ-not-≪ h (≪-under t k))
@@ -82,9 +82,9 @@ pub <ₗ-not-≤ₗ : {x y : List ℕ} → x <ₗ y → y ≤ₗ x → ⊥
 <ₗ-not-≤ₗ (mismatch h) k = ≤ₗ-not-≪ k h
 
 pub not-<ₗ-≤ₗ : (x y : List ℕ) → ¬ (x <ₗ y) → y ≤ₗ x
-not-<ₗ-≤ₗ x y n = go (compared y x)
+not-<ₗ-≤ₗ x y n = go (related y x)
   where
-    go : Compared y x → y ≤ₗ x
+    go : Related y x → y ≤ₗ x
     go (less h) = lost h
     go (greater h) = absurd (n (mismatch h))
     go (within h) = pre h

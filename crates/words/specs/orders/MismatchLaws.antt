@@ -1,4 +1,4 @@
--- Laws of ≪, and the one case split that both orders are made of: found x y, and compared x y with less detail.
+-- Laws of ≪, and the one case split that both orders are made of: found x y, and related x y with less detail.
 use mathlib.Core.Path.{_≡_, refl, ap}
 use mathlib.Core.List.{List, [], _∷_, _++_}
 use Prim.Native.Nat.{ℕ, zero, suc, _≤_, _<_, Ordering, Ordering·lt, Ordering·eq, Ordering·gt}
@@ -96,16 +96,16 @@ found (a ∷ x) (b ∷ y) = go (ordered a b) (found x y)
     go (gt h) f = greater (here h)
 
 -- the same with less detail: four cases, exactly one holds
-pub data Compared (x y : List ℕ) : Type 0 where
-  less : x ≪ y → Compared x y
-  greater : y ≪ x → Compared x y
-  within : x ⊑ y → Compared x y
-  beyond : y ⊑ x → length y < length x → Compared x y
+pub data Related (x y : List ℕ) : Type 0 where
+  less : x ≪ y → Related x y
+  greater : y ≪ x → Related x y
+  within : x ⊑ y → Related x y
+  beyond : y ⊑ x → length y < length x → Related x y
 
-pub compared : (x y : List ℕ) → Compared x y
-compared x y = go (found x y)
+pub related : (x y : List ℕ) → Related x y
+related x y = go (found x y)
   where
-    go : {o : Outcome} → Found x y o → Compared x y
+    go : {o : Outcome} → Found x y o → Related x y
     go (Found.less h) = less h
     go (Found.greater h) = greater h
     go (same e) = within (rw e (⊑-refl y))

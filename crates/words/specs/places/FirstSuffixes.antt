@@ -12,7 +12,7 @@ use lib.Seq.{drop-append-add, drop-append-le, drop-append-seam, drop-drop}
 use Rattle.words.specs.Words.{done, InverseLyndon, AntiLyndon}
 use Rattle.words.specs.Statements.{EqualOrAfter, DominatedBy, Next, Linked}
 use Rattle.words.specs.orders.PrefixLaws.{⊑-split}
-use Rattle.words.specs.orders.MismatchLaws.{≪-append, Compared, less, greater, within, beyond, compared}
+use Rattle.words.specs.orders.MismatchLaws.{≪-append, Related, less, greater, within, beyond, related}
 use Rattle.words.specs.orders.InverseLaws.{_≼_, won, pre, ≼-refl, ≼-trans, ≼-under, ≼-not-≪, ≼-antisym}
 use Rattle.words.specs.lyndon.WordTests.{suffix-loses}
 use Rattle.words.specs.lyndon.Suffixes.{Begins, first, second, begins, dominated-at}
@@ -127,9 +127,9 @@ range-before {u} {y} h i j (pre p) =
     rw (e, append-assoc) (≼-under (drop i u) (h (j + length (drop i u))))
 
 pub before-range : {u y : List ℕ} → Leads u y → (i j : ℕ) → (drop i u ++ y) ≼ (drop j u ++ y) → drop i u ≼ drop j u
-before-range {u} {y} h i j k = go (compared (drop i u) (drop j u))
+before-range {u} {y} h i j k = go (related (drop i u) (drop j u))
   where
-    go : Compared (drop i u) (drop j u) → drop i u ≼ drop j u
+    go : Related (drop i u) (drop j u) → drop i u ≼ drop j u
     go (less x) = absurd (≼-not-≪ k (≪-append y y x))
     go (greater x) = won x
     go (within x) = pre x

@@ -6,18 +6,18 @@ use Prim.Native.Nat.{_-_, _≤_, _<_}
 use native.Mathlib.Omega.{arith}
 use lib.ListN.{length, getD}
 use Rattle.reading.proofs.BitLengths.{bit-length-some, bit-length-most}
-use Rattle.reading.proofs.Summing.{Going, going-start, going-above, going-room, going-kept, going-replaced, going-end}
+use Rattle.reading.proofs.Summing.{SummedUpTo, summed-start, summed-above, summed-room, summed-kept, summed-replaced, summed-end}
 use Rattle.reading.proofs.summary.sum_up.Statement.{statement}
 use Rattle.reading.proofs.summary.sum_up.Tie as tie
 
 abbrev Inv-loop : tie.InvT-loop
-Inv-loop ends bands₀ longest₀ from₀ last₀ i₀ bands longest from last i = Going ends longest from bands last i
+Inv-loop ends bands₀ longest₀ from₀ last₀ i₀ bands longest from last i = SummedUpTo ends longest from bands last i
 
 abbrev μ-loop : tie.MeasureT-loop
 μ-loop ends bands₀ longest₀ from₀ last₀ i₀ bands longest from last i = length ends - i
 
 above-at : (c : tie.In-loop Inv-loop μ-loop) → c .before .loop .last < getD (c .before .before .before .args .ends .now) (c .before .loop .i) 0
-above-at c = going-above (c .before .loop .inv) (c .loop-test .taken) (c .before .before .before .pre)
+above-at c = summed-above (c .before .loop .inv) (c .loop-test .taken) (c .before .before .before .pre)
 
 -- a band that is counted
 band-at : (c : tie.After-bit-length Inv-loop μ-loop) → (1 ≤ c .bit-length .result) × (c .bit-length .result ≤ 13)
@@ -27,7 +27,7 @@ band-at c =
     rw (c .bit-length .ensures) (bit-length-some _ (omega (arith, above-at turn)), bit-length-most _ (omega (arith, short)))
 
 loop-holds : tie.Need-loop-holds Inv-loop μ-loop
-loop-holds c = going-start _
+loop-holds c = summed-start _
 
 mul-end : tie.Need-mul-end Inv-loop μ-loop
 mul-end c = search needs
@@ -53,7 +53,7 @@ array-read-bands c = omega (arith, band-at c)
 add-bands : tie.Need-add-bands Inv-loop μ-loop
 add-bands c =
     let at-loop = c .before .before .before .before in
-    omega (arith, going-room (at-loop .loop .inv) (c .bit-length .result - 1) (omega (arith, band-at c)), at-loop .before .before .pre .few)
+    omega (arith, summed-room (at-loop .loop .inv) (c .bit-length .result - 1) (omega (arith, band-at c)), at-loop .before .before .pre .few)
 
 array-write-bands : tie.Need-array-write-bands Inv-loop μ-loop
 array-write-bands c = omega (arith, band-at c)
@@ -70,15 +70,15 @@ loop-again c =
     let at-loop = turn .before in
     let digits = c .bit-length .ensures in
     ⊎-elim
-    (λ w. rw (w .1, w .2) (going-replaced (at-loop .loop .inv) (turn .loop-test .taken) _ digits (band-at c .0) (w .0 .taken)))
-    (λ w. rw (w .1, w .2) (going-kept (at-loop .loop .inv) (turn .loop-test .taken) _ digits (band-at c .0) (w .0 .left)))
+    (λ w. rw (w .1, w .2) (summed-replaced (at-loop .loop .inv) (turn .loop-test .taken) _ digits (band-at c .0) (w .0 .taken)))
+    (λ w. rw (w .1, w .2) (summed-kept (at-loop .loop .inv) (turn .loop-test .taken) _ digits (band-at c .0) (w .0 .left)))
     (c .before .if1 .came)
 
 cast-t17 : tie.Need-cast-t17 Inv-loop μ-loop
 cast-t17 c = omega (arith, c .before .loop .inv .inside, c .before .before .before .pre .few)
 
 returns : tie.Need-returns Inv-loop μ-loop
-returns c = going-end (c .before .loop .inv) (c .loop-test .left)
+returns c = summed-end (c .before .loop .inv) (c .loop-test .left)
 
 pub sum-up-spec : {M : Type 1} → statement M
 sum-up-spec =

@@ -5,15 +5,15 @@ use Rattle.checks.specs.declared.Checked.the-variants.{Passed}
 use Rattle.checks.specs.Lines.{tried}
 use Rattle.checks.proofs.LineLaws.{passed, refused}
 use Rattle.reading.specs.Summary.{summaryLines, emptySummary}
-use Rattle.reading.proofs.FactorLaws.{Listed, listed, summable}
+use Rattle.reading.proofs.FactorLaws.{EndsAccepted, ends-admitted, summable}
 use Rattle.reading.proofs.summary.summarize.Statement.{statement}
 use Rattle.reading.proofs.summary.summarize.Tie as tie
 
 passed-at : (c : tie.After-enum-told) → let a = c .before .before .before .before .before .args in tried (summaryLines (a .word .now) (a .ends .now)) ≡ Passed
 passed-at c = passed _ (c .before .before .admit-ends .ensures) (c .before .match .keys1)
 
-listed-at : (c : tie.After-enum-told) → let a = c .before .before .before .before .before .args in Listed (a .word .now) (a .ends .now)
-listed-at c = listed _ _ (passed-at c)
+accepted-at : (c : tie.After-enum-told) → let a = c .before .before .before .before .before .args in EndsAccepted (a .word .now) (a .ends .now)
+accepted-at c = ends-admitted _ _ (passed-at c)
 
 admit-ends-requires : tie.Need-admit-ends-requires
 admit-ends-requires c κs = search needs
@@ -38,7 +38,7 @@ returns c =
     }
 
 sum-up-requires : tie.Need-sum-up-requires
-sum-up-requires c κs = summable (listed-at c)
+sum-up-requires c κs = summable (accepted-at c)
 
 returns-2 : tie.Need-returns-2
 returns-2 c = record { answer = rw (passed-at (c .before)) (c .sum-up .ensures) }
