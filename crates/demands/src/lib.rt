@@ -1,2 +1,1 @@
 //! The customer's three demands, stated and proved about the calls' promises. Everything is in specs/: Demands has the statements.
-pub const DEMANDS: usize = 3;
