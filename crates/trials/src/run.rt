@@ -34,7 +34,11 @@ pub fn place(call: Call, limits: bool) -> usize {
         Call::Part => 12,
         Call::Summary => 14,
     };
-    if limits { plus(number, 2 * CALLS) } else { number }
+    if limits {
+        plus(number, 2 * CALLS)
+    } else {
+        number
+    }
 }
 
 /// Counts one case.
