@@ -65,7 +65,7 @@ enum-told-4 : tie.Need-enum-told-4
 enum-told-4 c = search needs
 
 clear-requires : tie.Need-clear-requires
-clear-requires c κs = inside-at (c .before .before .before .before .before .before) .1
+clear-requires c κs = omega (arith, inside-at (c .before .before .before .before .before .before))
 
 number-requires-2 : tie.Need-number-requires-2
 number-requires-2 c κs = search needs
@@ -93,7 +93,7 @@ part-copy-start : tie.Need-part-copy-start
 part-copy-start c = search needs
 
 part-copy-end : tie.Need-part-copy-end
-part-copy-end c = inside-at (c .before .before .before .before .before .before) .2
+part-copy-end c = omega (arith, inside-at (c .before .before .before .before .before .before))
 
 copy-requires : tie.Need-copy-requires
 copy-requires c κs =
@@ -104,7 +104,7 @@ copy-requires c κs =
     simp (length-take, length-drop) (omega (arith, space))
 
 clear-requires-2 : tie.Need-clear-requires-2
-clear-requires-2 c κs = inside-at (c .before .before .before .before .before .before .before .before .before .before .before .before) .1
+clear-requires-2 c κs = omega (arith, inside-at (c .before .before .before .before .before .before .before .before .before .before .before .before))
 
 same-length-2 : tie.Need-same-length-2
 same-length-2 c = search needs
