@@ -1,6 +1,6 @@
 -- The lines of the table, whatever they are: what is known in the two branches of `let Checked::Passed = k else` (passed, refused), lines that are
--- tried in two parts (both, refused-first, passed-first), what it tells that all pass (unmet, all-pass), which numbers can come (first-listed, zero-passes, unless-but),
--- and calls that fill a result buffer (filled-refused, filled-done, and back: filled-counted, filled-number).
+-- tried in two parts (both, refused-first, passed-first), what it tells that all pass (unmet, all-pass), which numbers can come (first-listed,
+-- zero-passes, unless-but), and calls that fill a result buffer (filled-refused, filled-done, and back: filled-counted, filled-number).
 use mathlib.Core.Path.{_≡_, refl, ap, sym, _∙_}
 use mathlib.Core.Bool.{Bool, true, false, not, _||_, _&&_, true≢false}
 use mathlib.Core.Logic.{_⊎_, inl, inr}

@@ -43,7 +43,8 @@ answers {e} numbers lines z h = record { first = z; listed = go (first-listed li
     go (inl p) = inl (z ∙ ap numberOf p)
     go (inr m) = inr (rw z m)
 
-filled-refusal : {lines : List Line} {n : ℕ} {vs buffer buffer′ : List ℕ} {r : Counted} → Filled lines n vs buffer r buffer′ → countRefusal r ≡ numberOf (tried lines)
+filled-refusal : {lines : List Line} {n : ℕ} {vs buffer buffer′ : List ℕ} {r : Counted} → Filled lines n vs buffer r buffer′
+    → countRefusal r ≡ numberOf (tried lines)
 filled-refusal {lines} {n} f = ap countRefusal (f .answer) ∙ reading countRefusal (Counted.Count n) (λ (i : ℕ). Counted.Refused i) (tried lines)
 
 summary-refusal : (es : List ℕ) (k : Checked) → decided k (summaryOf es) emptySummary .refusal ≡ numberOf k
@@ -108,7 +109,8 @@ module _ (w es ss : List ℕ) (compare : ℕ → ℕ → ℕ → ℕ → Compari
       let within : Within w first end start other = record { short = r .short; inside = l; start-from = a; start-below = b; other-from = c; other-below = d } in
       r .comparison first end start other .answer ∙ rw (within-passes w first end start other within)
 
-  module _ (first end start other : ℕ) (h : List·Memᴰ end es) (a : first ≤ start) (b : start < end) (c : first ≤ other) (d : other < end) (n : ¬ (start ≡ other)) where
+  module _ (first end start other : ℕ) (h : List·Memᴰ end es) (a : first ≤ start) (b : start < end) (c : first ≤ other) (d : other < end)
+      (n : ¬ (start ≡ other)) where
     inside : end ≤ length w
     unfolding icflEnds
     inside = theory.icfl-inside w end (ends-boundary (icfl w) (rw pieces-are at h))
@@ -126,7 +128,8 @@ module _ (w es ss : List ℕ) (compare : ℕ → ℕ → ℕ → ℕ → Compari
     same-sign g =
         let t = theory.demand-3 w .compatible first end start other (rw pieces-are at g) (rw pieces-are at h) a b c d n in
         signs first end start other inside a b c d
-        ∙ (ap (λ (s : ℤ). Comparison.Sign s) t ∙ sym (signs 0 (length w) start other (omega arith) (omega arith) (omega (arith, inside)) (omega arith) (omega (arith, inside))))
+        ∙ (ap (λ (s : ℤ). Comparison.Sign s) t
+        ∙ sym (signs 0 (length w) start other (omega arith) (omega arith) (omega (arith, inside)) (omega arith) (omega (arith, inside))))
 
   pub demand-3 : Demand3 w es ss compare
   demand-3 = record {

@@ -47,7 +47,8 @@ filled-numbers {lines} {n} f x e =
     }
 
 -- a record that is not refused is short, and so is every answer about it
-small : (w : List ℕ) (lines : List Line) {n : ℕ} {vs buffer buffer′ : List ℕ} {r : Counted} → n ≤ length w → Filled (recordLines w ++ lines) n vs buffer r buffer′ → Small r
+small : (w : List ℕ) (lines : List Line) {n : ℕ} {vs buffer buffer′ : List ℕ} {r : Counted} → n ≤ length w
+    → Filled (recordLines w ++ lines) n vs buffer r buffer′ → Small r
 small w lines {n} l f = rw (f .answer) (go (tried (recordLines w ++ lines)) refl)
   where
     go : (k : Checked) → tried (recordLines w ++ lines) ≡ k → Small (decided k (Counted.Count n) Counted.Refused)
@@ -81,7 +82,8 @@ borderOf Extension.InverseLyndon = 0
 borderOf (Extension.Failing l p r) = r
 borderOf (Extension.Refused e) = 0
 
-pub test-numbers : (w work work′ : List ℕ) (a : Extension) → ExtensionFound w work a work′ → TestNumbers w work (testRefusal a) (failingOf a) (prefixOf a) (borderOf a) work′
+pub test-numbers : (w work work′ : List ℕ) (a : Extension) → ExtensionFound w work a work′
+    → TestNumbers w work (testRefusal a) (failingOf a) (prefixOf a) (borderOf a) work′
 test-numbers w work work′ a f =
     let k = tried (extensionLines w (length work)) in
     record {
@@ -132,15 +134,19 @@ module _ (w : List ℕ) (first end start other : ℕ) where
   pub sign-numbers : (s : ℤ) → Compared w first end start other (Comparison.Sign s) → SignNumber w first end start other 0 (toZ w8 (ofZ w8 s))
   sign-numbers s f = go (tried (compareLines w first end start other)) refl (f .answer)
     where
-      go : (k : Checked) → tried (compareLines w first end start other) ≡ k → Comparison.Sign s ≡ decided k (Comparison.Sign (sign w first end start other)) Comparison.Refused
+      go : (k : Checked) → tried (compareLines w first end start other) ≡ k
+          → Comparison.Sign s ≡ decided k (Comparison.Sign (sign w first end start other)) Comparison.Refused
           → SignNumber w first end start other 0 (toZ w8 (ofZ w8 s))
-      go Passed z x = let y : s ≡ sign w first end start other = cc in record { refusal = rw z; sign-is = rw (z, y) (sign-read (sign-is w first end start other)) }
+      go Passed z x =
+          let y : s ≡ sign w first end start other = cc in
+          record { refusal = rw z; sign-is = rw (z, y) (sign-read (sign-is w first end start other)) }
       go (Refused number) z x = let b : _≡_ {A = ℕ} 0 1 = cc in absurd (omega arith)
 
   pub sign-refused : (m : ℕ) → Compared w first end start other (Comparison.Refused m) → SignNumber w first end start other m (pos 0)
   sign-refused m f = go (tried (compareLines w first end start other)) refl (f .answer)
     where
-      go : (k : Checked) → tried (compareLines w first end start other) ≡ k → Comparison.Refused m ≡ decided k (Comparison.Sign (sign w first end start other)) Comparison.Refused
+      go : (k : Checked) → tried (compareLines w first end start other) ≡ k
+          → Comparison.Refused m ≡ decided k (Comparison.Sign (sign w first end start other)) Comparison.Refused
           → SignNumber w first end start other m (pos 0)
       go Passed z x = let b : _≡_ {A = ℕ} 0 1 = cc in absurd (omega arith)
       go (Refused number) z x = let y : m ≡ number = cc in record { refusal = rw (z, y); sign-is = rw z }

@@ -20,7 +20,8 @@ use Rattle.icfl.specs.Icfl.{CutRoom, BreaksFound}
 -- ---- the stack
 
 -- two entries pushed at entry n + i of the buffer
-stack-push : (work : List ℕ) (n i e r : ℕ) → n + i + 1 < length work → take (suc (suc i)) (drop n (set (set work (n + i) e) (n + i + 1) r)) ≡ take i (drop n work) ++ e ∷ r ∷ []
+stack-push : (work : List ℕ) (n i e r : ℕ) → n + i + 1 < length work
+    → take (suc (suc i)) (drop n (set (set work (n + i) e) (n + i + 1) r)) ≡ take i (drop n work) ++ e ∷ r ∷ []
 stack-push work n i e r l =
     let z : n + i + 1 ≡ n + suc i = omega arith in
     let m : i < length (drop n work) = rw length-drop (omega arith) in
@@ -81,7 +82,8 @@ module _ (w work₀ work work₁ : List ℕ) (n from count : ℕ) (g : Finding w
       breaks = λ bs b. rw (pushed, append-assoc) (g .breaks ((from + p) ∷ r ∷ bs) (broken bs b));
       kept =
           drop-set-lt (3 * length w) (set work₁ (n + 2 * count) (from + p)) (n + 2 * count + 1) r (omega (arith, g .size, g .few, g .inside))
-          ∙ (drop-set-lt (3 * length w) work₁ (n + 2 * count) (from + p) (omega (arith, g .size, g .few, g .inside)) ∙ (kept-from (3 * length w) (omega arith) ∙ g .kept));
+          ∙ (drop-set-lt (3 * length w) work₁ (n + 2 * count) (from + p) (omega (arith, g .size, g .few, g .inside))
+          ∙ (kept-from (3 * length w) (omega arith) ∙ g .kept));
       long = length-set (set work₁ (n + 2 * count) (from + p)) (n + 2 * count + 1) r ∙ (length-set work₁ (n + 2 * count) (from + p) ∙ (y ∙ g .long));
     }
       where

@@ -56,13 +56,17 @@ module _ (w work work₁ : List ℕ) (count : ℕ) (r : CutRoom w work) (b : Bre
     size = same ∙ (ap length (rest-is n work₂) ∙ stack-long)
 
     number : 2 * count + 1 - top ≡ length (icflEnds w)
-    number = omega (arith, joined .upto, r .entries, b .few, size, long, length-set work₁ (n + 2 * count) n, simp (length-append, length-drop) at (ap length ends-after))
+    number =
+        let sizes = simp (length-append, length-drop) at (ap length ends-after) in
+        omega (arith, joined .upto, r .entries, b .few, size, long, length-set work₁ (n + 2 * count) n, sizes)
 
     front : length (take n work₂) ≡ n
     front = length-take-le n work₂ (rw (length-set, long) (omega (arith, r .entries)))
 
     after : (m : ℕ) → drop (n + m) work₃ ≡ drop m stack′
-    after m = rw (rest-back n work₂ stack′) (subst (λ (k : ℕ). drop (k + m) (take n work₂ ++ stack′) ≡ drop m stack′) front (drop-append-add (take n work₂) stack′ m))
+    after m =
+        rw (rest-back n work₂ stack′)
+        (subst (λ (k : ℕ). drop (k + m) (take n work₂ ++ stack′) ≡ drop m stack′) front (drop-append-add (take n work₂) stack′ m))
 
     -- past the ends the buffer is as the forward pass left it
     tail-kept : drop (2 * n) stack′ ≡ drop (2 * n) stack

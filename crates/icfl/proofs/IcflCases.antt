@@ -37,7 +37,8 @@ module _ (w work buffer : List ℕ) where
     pub cut-room : CutRoom w work
     cut-room =
         let a = accepted w _ admitted in
-        record { nonempty = a .nonempty; short = a .short; entries = ltb-false (length work) (3 * length w) (unmet (icflAdmission w (length work)) admitted .1 .1 .0) }
+        let u = unmet (icflAdmission w (length work)) admitted in
+        record { nonempty = a .nonempty; short = a .short; entries = ltb-false (length work) (3 * length w) (u .1 .1 .0) }
 
     module _ {found : Ends} {work₁ work₂ : List ℕ} (x : EndsFound w work found work₁) (y : work₂ ≡ cleared (3 * length w) work₁) where
       zeroed : work₂ ≡ cleared (3 * length w) work unless icflLines w (length work) (length buffer) then workAfter (3 * length w) work

@@ -119,7 +119,9 @@ module _ (stack₀ stack : List ℕ) (count k top : ℕ) (s : Stacked stack₀ c
       head-eq-of-cons-eq x
 
   front-before : take (2 * (k - 1)) stack ≡ take (2 * (k - 1)) stack₀
-  front-before = sym (take-take (2 * (k - 1)) (2 * k) stack (omega arith)) ∙ (ap (take (2 * (k - 1))) (g .front) ∙ take-take (2 * (k - 1)) (2 * k) stack₀ (omega arith))
+  front-before =
+      sym (take-take (2 * (k - 1)) (2 * k) stack (omega arith))
+      ∙ (ap (take (2 * (k - 1))) (g .front) ∙ take-take (2 * (k - 1)) (2 * k) stack₀ (omega arith))
 
   pub joined-on : getD stack top 0 ≤ getD stack i 0 + getD stack (i + 1) 0 → Joining stack₀ stack count (k - 1) top
   joined-on l =

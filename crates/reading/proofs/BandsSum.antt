@@ -57,6 +57,7 @@ pub summary-bands-sum : {w es : List ℕ} {r : Summary} → Summarized w es r �
 unfolding sum summaryOf
 summary-bands-sum {w} {es} s = rw (s .answer) (go (tried (summaryLines w es)) (ends-admitted w es))
   where
-    go : (k : Checked) → (k ≡ Passed → EndsAccepted w es) → sum _+_ 0 (decided k (summaryOf es) emptySummary .bands) ≡ decided k (summaryOf es) emptySummary .count
+    go : (k : Checked) → (k ≡ Passed → EndsAccepted w es)
+        → sum _+_ 0 (decided k (summaryOf es) emptySummary .bands) ≡ decided k (summaryOf es) emptySummary .count
     go Passed g = bands-sum (length w) es (g refl .rises) (g refl .letters)
     go (Refused e) g = refl

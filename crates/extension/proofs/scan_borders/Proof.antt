@@ -56,7 +56,8 @@ loop-again : tie.Need-loop-again Inv-loop μ-loop
 loop-again c =
     let turn = c .before .before .before .before in
     let at-loop = turn .before .before in
-    scan-goes-on (c .step .result) (at-loop .loop .inv) (at-loop .before .before .before .before .pre) (turn .if1 .taken) (c .before .if2 .left) (c .step .ensures)
+    let start = at-loop .before .before .before .before in
+    scan-goes-on (c .step .result) (at-loop .loop .inv) (start .pre) (turn .if1 .taken) (c .before .if2 .left) (c .step .ensures)
 
 same-length-2 : tie.Need-same-length-2 Inv-loop μ-loop
 same-length-2 c = search needs

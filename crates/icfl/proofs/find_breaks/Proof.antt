@@ -70,7 +70,9 @@ same-length : tie.Need-same-length Inv-loop μ-loop
 same-length c = search needs
 
 returns : tie.Need-returns Inv-loop μ-loop
-returns c = find-ends _ _ _ _ _ _ _ (c .before .before .before .before .before .before .before .loop .inv) _ (c .before .before .before .extension-of .ensures) (c .match .keys2)
+returns c =
+    let at-test = c .before .before .before in
+    find-ends _ _ _ _ _ _ _ (at-test .before .before .before .before .loop .inv) _ (at-test .extension-of .ensures) (c .match .keys2)
 
 add-from : tie.Need-add-from Inv-loop μ-loop
 add-from c = omega (arith, inside-at c, entry-at c)

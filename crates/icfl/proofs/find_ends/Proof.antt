@@ -62,17 +62,19 @@ sub-t16 c = search needs
 
 same-length : tie.Need-same-length
 same-length c =
+    let join = c .before .before .join-breaks in
     let at-breaks = c .before .before .before .before .before .before in
     let start = at-breaks .before .before .before .before in
     long-kept (start .args .word .now) (start .args .work .now) (at-breaks .find-breaks .last .1 .0) _ (start .pre) (at-breaks .find-breaks .ensures)
-    (at-breaks .find-breaks .kept .1 .0) _ (c .before .before .join-breaks .last .0) (c .before .before .join-breaks .ensures) (c .before .before .join-breaks .kept .0)
+    (at-breaks .find-breaks .kept .1 .0) _ (join .last .0) (join .ensures) (join .kept .0)
 
 returns : tie.Need-returns
 returns c =
+    let join = c .before .before .join-breaks in
     let at-breaks = c .before .before .before .before .before .before in
     let start = at-breaks .before .before .before .before in
     ends-found (start .args .word .now) (start .args .work .now) (at-breaks .find-breaks .last .1 .0) _ (start .pre) (at-breaks .find-breaks .ensures)
-    (at-breaks .find-breaks .kept .1 .0) _ (c .before .before .join-breaks .last .0) (c .before .before .join-breaks .ensures) (c .before .before .join-breaks .kept .0)
+    (at-breaks .find-breaks .kept .1 .0) _ (join .last .0) (join .ensures) (join .kept .0)
 
 pub find-ends-spec : {M : Type 1} → statement M
 find-ends-spec =

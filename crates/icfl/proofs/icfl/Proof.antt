@@ -100,7 +100,8 @@ copy-requires c κs =
     let at-room = c .before .before .before .before in
     let at-found = at-room .before .before .before .before in
     let start = at-found .before .before .before .before .before .before .before .before in
-    let space = enough 4 (length (start .args .ends .now)) (at-found .find-ends .result .count) (passed _ (at-room .before .check-result .ensures) (at-room .match2 .keys1)) in
+    let fits = passed _ (at-room .before .check-result .ensures) (at-room .match2 .keys1) in
+    let space = enough 4 (length (start .args .ends .now)) (at-found .find-ends .result .count) fits in
     simp (length-take, length-drop) (omega (arith, space))
 
 clear-requires-2 : tie.Need-clear-requires-2

@@ -7,7 +7,8 @@ use Prim.Native.Nat.{ℕ, zero, suc, _<_}
 use native.Mathlib.Omega.{arith}
 use native.Mathlib.Decide.{decLt}
 use lib.ListN.{length, drop, length-drop, drop-of-length-le}
-use Rattle.words.specs.Words.{_≪_, done, proper, _<ₗ_, _≺_, prefix, mismatch, InverseLyndon, AntiLyndon, isLexLess, isInverseBefore, everySuffix, isInverseLyndon, isAntiLyndon}
+use Rattle.words.specs.Words.{_≪_, done, proper, _<ₗ_, _≺_, prefix, mismatch, InverseLyndon, AntiLyndon}
+use Rattle.words.specs.Words.{isLexLess, isInverseBefore, everySuffix, isInverseLyndon, isAntiLyndon}
 use Rattle.words.specs.orders.LexLaws.{_≤ₗ_, lost, pre, ≤ₗ-refl, <ₗ-≤ₗ}
 use Rattle.words.specs.orders.OrderTests.{lex-less-test, inverse-before-test}
 use Rattle.words.specs.lyndon.Suffixes.{by-parts, by-places}

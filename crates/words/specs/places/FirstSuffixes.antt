@@ -118,7 +118,8 @@ first-boundary (Linked.more {m = m} {ms = ms} a x d) i l f = go (begins m (flatt
 
 pub first-leads : (x u y : List ℕ) → FirstSuffix (length x + length u) (x ++ (u ++ y)) → Leads u y
 first-leads x u y f = leads-within {m = u} (λ i h.
-    rw (drop-append-add x (u ++ y) (length u), drop-append-add x (u ++ y) i, drop-append-seam, drop-append-le i u y (omega arith)) at (f (length x + i) (omega arith)))
+    rw (drop-append-add x (u ++ y) (length u), drop-append-add x (u ++ y) i, drop-append-seam, drop-append-le i u y (omega arith))
+    at (f (length x + i) (omega arith)))
 
 pub range-before : {u y : List ℕ} → Leads u y → (i j : ℕ) → drop i u ≼ drop j u → (drop i u ++ y) ≼ (drop j u ++ y)
 range-before h i j (won x) = won (≪-append _ _ x)
