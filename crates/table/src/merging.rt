@@ -69,7 +69,7 @@ fn longest_at(word: &[u8], lengths: &[u16], i: usize, next: usize) -> usize
     longest_from(word, lengths, i, j + next)
 }
 
-/// Writes the table from its last entry on. The entry just written is handed on, the others are read again.
+// Writes the table from its last entry on. The entry just written is handed on, the others are read again.
 pub fn fill_table(word: &[u8], lengths: &mut [u16])
     requires { ⌜ TableRoom (now word) (now lengths) ⌝ }
     ensures { λ r. ⌜ now (lengths .exit) ≡ written (lyndonTable (now (word .entry))) (now (lengths .entry)) ⌝ }
