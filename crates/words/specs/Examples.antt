@@ -29,16 +29,16 @@ answer (comparison w first end start other) = signed (sign w first end start oth
 
 -- ---- the table: letters stand for their ASCII codes
 
-abbrev a : ℕ
+abbrev pub a : ℕ
 a = 97
 
-abbrev b : ℕ
+abbrev pub b : ℕ
 b = 98
 
-abbrev c : ℕ
+abbrev pub c : ℕ
 c = 99
 
-abbrev d : ℕ
+abbrev pub d : ℕ
 d = 100
 
 infix 20 _gives_

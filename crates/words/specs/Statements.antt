@@ -1,11 +1,12 @@
--- DEFINITIONS. What is said of a list of words, and demand 3 of a word. The product of a list of words is the library's flatten.
+-- DEFINITIONS. What is said of a list of words, of one step of the piece cut, and demand 3 of a word. The product of a list of words is the library's
+-- flatten.
 use mathlib.Core.Path.{_≡_}
 use mathlib.Core.Logic.{_⊎_}
 use mathlib.Core.List.{List, [], _∷_, _++_, flatten, List·Memᴰ}
-use Prim.Native.Nat.{ℕ, _≤_, _<_}
-use lib.ListN.{length}
+use Prim.Native.Nat.{ℕ, _-_, _≤_, _<_}
+use lib.ListN.{length, take}
 use lib.Seq.{slice}
-use Rattle.words.specs.Words.{_≪_, _⊑_, _<ₗ_, _≺_, AntiLyndon, sign}
+use Rattle.words.specs.Words.{_≪_, _⊑_, _<ₗ_, _≺_, InverseLyndon, AntiLyndon, sign}
 use Rattle.words.specs.Factorizations.{icflEnds, cflInEnds}
 
 -- m has R to the first word of the list, if there is one
@@ -34,6 +35,23 @@ DominatedBy m n = (u s : List ℕ) → u ++ s ≡ m → 0 < length s → s ≪ n
 abbrev pub BelowByBorders : List ℕ → List ℕ → Type 0
 BelowByBorders m n = (m ≪ n) × ((u s : List ℕ) → u ++ s ≡ m → 0 < length u → 0 < length s → s ⊑ m → ¬ (s ⊑ n))
 
+-- "It can be written r a u r b, where a and b are bytes, a is less than b, and r and u may be empty", with |r| = k
+pub data BorderedBy (k : ℕ) (x : List ℕ) : Type 0 where
+  bordered : (r u : List ℕ) (a b : ℕ) → x ≡ r ++ a ∷ u ++ r ++ b ∷ [] → a < b → length r ≡ k → BorderedBy k x
+
+-- bounded right extension: L, |p| and |r| of a word that is not inverse Lyndon
+pub record BoundedExtension (w : List ℕ) (failing prefix border : ℕ) : Type 0 where
+  -- "take its shortest beginning that is not falling, of length L" (nonempty)
+  pub positive : 0 < failing
+  pub inside : failing ≤ length w
+  pub fails : ¬ InverseLyndon (take failing w)
+  pub shortest : (n : ℕ) → 0 < n → n < failing → InverseLyndon (take n w)
+  -- "It can be written r a u r b ..; take the shortest such r."
+  pub written : BorderedBy border (take failing w)
+  pub least : (k : ℕ) → k < border → ¬ BorderedBy k (take failing w)
+  -- "The first L − |r| − 1 bytes are p."
+  pub before : prefix ≡ failing - border - 1
+
 -- j follows i in the list
 pub data Adjacent (i j : ℕ) : List ℕ → Type 0 where
   here : {es : List ℕ} → Adjacent i j (i ∷ j ∷ es)
@@ -43,12 +61,20 @@ pub data Adjacent (i j : ℕ) : List ℕ → Type 0 where
 abbrev pub Part : List ℕ → ℕ → ℕ → Type 0
 Part es i j = Adjacent i j (0 ∷ es)
 
+-- "A stretch of whole neighbouring pieces has 0 or a piece end as its first place, and a later piece end as its end."
+abbrev pub WholePieces : List ℕ → ℕ → ℕ → Type 0
+WholePieces es i j = List·Memᴰ i (0 ∷ es) × List·Memᴰ j es
+
+-- for two different starts inside it, the order found from each stretch that is Chosen is the one found from 0 to n
+abbrev pub Compatible : {A : Type 0} (Chosen : ℕ → ℕ → Type 0) (n : ℕ) (order : ℕ → ℕ → ℕ → ℕ → A) → Type 0
+Compatible Chosen n order = (first end start other : ℕ) → Chosen first end
+    → first ≤ start → start < end → first ≤ other → other < end → ¬ (start ≡ other)
+    → order first end start other ≡ order 0 n start other
+
 pub record Demand3 (w : List ℕ) : Type 0 where
   -- "For every stretch of whole neighbouring pieces and every two different starting minutes inside it, the inverse order
   -- found from that stretch alone is exactly the one found when both run to the record's end."
-  pub compatible : (first end start other : ℕ) → List·Memᴰ first (0 ∷ icflEnds w) → List·Memᴰ end (icflEnds w)
-      → first ≤ start → start < end → first ≤ other → other < end → ¬ (start ≡ other)
-      → sign w first end start other ≡ sign w 0 (length w) start other
+  pub compatible : Compatible (WholePieces (icflEnds w)) (length w) (sign w)
   -- "In natural byte order each piece exceeds every shorter ending of its own"
   pub exceeds : (i j : ℕ) → Part (icflEnds w) i j → (u s : List ℕ) → u ++ s ≡ slice i j w → 0 < length u → 0 < length s → s <ₗ slice i j w
   -- "and each but the last loses to the next piece at a byte that both have."

@@ -17,7 +17,7 @@ use Rattle.words.specs.icfl.Extension.{Extension, extension-below, exten
 use Rattle.words.specs.icfl.Failing.{Failing, failing-is, Shortest, shortest-is, suffix-parts, extension-at}
 
 -- "r a u r b": the first k letters return before the last of l letters, which is larger than the letter after the first k
-abbrev FailingBorder : List ℕ → ℕ → ℕ → Type 0
+abbrev pub FailingBorder : List ℕ → ℕ → ℕ → Type 0
 FailingBorder w l k = (2 * k + 2 ≤ l) × ((take k w ≡ take k (drop (l - 1 - k) w)) × (getD w k 0 < getD w (l - 1) 0))
 
 failing-border-test : (w : List ℕ) (l k : ℕ) → Decides (FailingBorder w l k) (isBorder w l k)
@@ -66,20 +66,36 @@ module _ (w : List ℕ) (l r : ℕ) (x : Failing w l) (b : r < l) where
   by-letters y = rw parts at (shortest-failing-border w (l - 1 - r) r failing-parts (subst (λ (n : ℕ). Shortest (take n w) r) (sym parts) y))
 
 -- the shortest by the order is the least by letters
-pub border-least : (w : List ℕ) (r : ℕ) → Failing w (failingLength w) → Shortest (take (failingLength w) w) r → borderLength w ≡ r
-unfolding borderLength
-border-least w r x y = least-unique (λ k. FailingBorder w l k) (λ k. isBorder w l k) (failing-border-test w l) l 0 r
-    (by-letters w l r x b y) (omega arith) (omega (arith, b))
-    (λ j a c k. ≤ₗ-not-≪ (y .shorter (l - 1 - j) (omega (arith, n, b))) (by-order w l j x (omega (arith, b)) k))
-  where
-    l : ℕ
-    l = failingLength w
+module _ (w : List ℕ) (r : ℕ) (x : Failing w (failingLength w)) (y : Shortest (take (failingLength w) w) r) where
+  size : length (take (failingLength w) w) ≡ failingLength w
+  size = length-take-le (failingLength w) w (x .inside)
 
-    n : length (take l w) ≡ l
-    n = length-take-le l w (x .inside)
+  below : r < failingLength w
+  below = rw size at (y .inside)
 
-    b : r < l
-    b = rw n at (y .inside)
+  least-border : FailingBorder w (failingLength w) r
+  least-border = by-letters w (failingLength w) r x below y
+
+  none-shorter : (j : ℕ) → j < r → ¬ FailingBorder w (failingLength w) j
+  none-shorter j b k = ≤ₗ-not-≪ (y .shorter (failingLength w - 1 - j) (omega (arith, size, below))) (by-order w (failingLength w) j x (omega (arith, below)) k)
+
+  pub border-least : borderLength w ≡ r
+  unfolding borderLength
+  border-least = least-unique (λ k. FailingBorder w (failingLength w) k) (λ k. isBorder w (failingLength w) k) (failing-border-test w (failingLength w))
+      (failingLength w) 0 r least-border (omega arith) (omega (arith, below)) (λ j a c. none-shorter j c)
+
+-- |r| of a word whose shortest failing prefix is known
+pub record LeastBorder (w : List ℕ) (r : ℕ) : Type 0 where
+  pub shortest : Shortest (take (failingLength w) w) r
+  pub border : FailingBorder w (failingLength w) r
+  pub none : (k : ℕ) → k < r → ¬ FailingBorder w (failingLength w) k
+
+pub least-border-is : (w : List ℕ) → Failing w (failingLength w) → LeastBorder w (borderLength w)
+least-border-is w x =
+    let size : length (take (failingLength w) w) ≡ failingLength w = length-take-le (failingLength w) w (x .inside) in
+    let found = shortest-is (take (failingLength w) w) (rw size (x .positive)) (x .fails) in
+    let r-is : borderLength w ≡ found .0 = border-least w (found .0) x (found .1) in
+    rw r-is (record { shortest = found .1; border = least-border w (found .0) x (found .1); none = none-shorter w (found .0) x (found .1) })
 
 pub prefix-length : (w : List ℕ) → prefixLength w ≡ failingLength w - borderLength w - 1
 unfolding prefixLength
@@ -100,20 +116,14 @@ step-is w s n = record { failing = failing; extension = extension-at w (prefixLe
     x : Failing w (failingLength w)
     x = failing-is w s n
 
-    size : length (take (failingLength w) w) ≡ failingLength w
-    size = length-take-le (failingLength w) w (x .inside)
-
-    found : (r : ℕ) × Shortest (take (failingLength w) w) r
-    found = shortest-is (take (failingLength w) w) (rw size (x .positive)) (x .fails)
-
-    r-is : borderLength w ≡ found .0
-    r-is = border-least w (found .0) x (found .1)
+    y : Shortest (take (failingLength w) w) (borderLength w)
+    y = least-border-is w x .shortest
 
     sum : failingLength w ≡ suc (prefixLength w + borderLength w)
-    sum = omega (arith, rw size at (found .1 .inside), r-is)
+    sum = omega (arith, rw (length-take-le (failingLength w) w (x .inside)) at (y .inside))
 
     failing : Failing w (suc (prefixLength w + borderLength w))
     failing = subst (λ (n : ℕ). Failing w n) sum x
 
     shortest : Shortest (take (suc (prefixLength w + borderLength w)) w) (borderLength w)
-    shortest = subst (λ (n : ℕ). Shortest (take n w) (borderLength w)) sum (rw r-is (found .1))
+    shortest = subst (λ (n : ℕ). Shortest (take n w) (borderLength w)) sum y

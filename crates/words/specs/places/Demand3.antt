@@ -104,8 +104,8 @@ module _ (w : List ℕ) where
   pub demand-3 : Demand3 w
   unfolding icflEnds
   demand-3 = record {
-    compatible = λ first end start other m n a b c d e.
-        let f : Boundary end (icfl w) = ends-boundary (icfl w) n in
+    compatible = λ first end start other m a b c d e.
+        let f : Boundary end (icfl w) = ends-boundary (icfl w) (m .1) in
         compatible w first end start other (icfl-first end f) (icfl-inside end f) a b c d e;
     exceeds = λ i j x. factor i j x .exceeds;
     loses = factor-below;
