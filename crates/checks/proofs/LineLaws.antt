@@ -1,11 +1,11 @@
 -- The lines of the table, whatever they are: what is known in the two branches of `let Checked::Passed = k else` (passed, refused), lines that are
--- tried in two parts (both, refused-first, passed-first), what it tells that all pass (unmet, all-pass), which numbers can come (first-listed,
--- zero-passes, unless-but), and calls that fill a result buffer (filled-refused, filled-done, and back: filled-counted, filled-number).
+-- tried in two parts (both, refused-first, passed-first), what it tells that all pass (unmet, all-pass), what an answer says (reading, said), which
+-- numbers can come (first-listed, zero-passes, numbered-is, unless-but), and calls that fill a result buffer (filled-refused, filled-done, and back: filled-counted, filled-number).
 use mathlib.Core.Path.{_≡_, refl, ap, sym, _∙_}
 use mathlib.Core.Bool.{Bool, true, false, not, _||_, _&&_, true≢false}
 use mathlib.Core.Logic.{_⊎_, inl, inr}
 use mathlib.Core.List.{List, [], _∷_, _++_, List·Memᴰ, List·Memᴰ·head, List·Memᴰ·tail}
-use Prim.Native.Nat.{ℕ}
+use Prim.Native.Nat.{ℕ, zero, suc}
 use native.Mathlib.Omega.{arith}
 use lib.Dec.{eqb, ltb}
 use types.Run.{OneOf}
@@ -17,7 +17,7 @@ use Rattle.checks.specs.declared.Checked.{Checked}
 use Rattle.checks.specs.declared.Checked.the-variants.{Passed, Refused}
 use Rattle.checks.specs.declared.Counted.{Counted}
 use Rattle.checks.specs.Lines.{Line, _when_, tried, decided, _unless_then_}
-use Rattle.checks.specs.Answers.{numberOf, firstOf, Filled}
+use Rattle.checks.specs.Answers.{numberOf, numbered, firstOf, Filled}
 
 -- ---- a check k: the two branches of `let Checked::Passed = k else`
 
@@ -103,6 +103,12 @@ pub reading : {A B : Type 0} (f : A → B) (result : A) (refusal : ℕ → A) (k
 reading f result refusal Passed = refl
 reading f result refusal (Refused number) = refl
 
+-- what an answer says is what the check said
+pub said : {A : Type 0} (f : A → Checked) (result : A) (refusal : ℕ → A) → f result ≡ Passed → ((number : ℕ) → f (refusal number) ≡ Refused number)
+    → (k : Checked) → f (decided k result refusal) ≡ k
+said f result refusal p q Passed = p
+said f result refusal p q (Refused number) = q number
+
 both-true : (a b : Bool) → (a && b) ≡ true → (a ≡ true) × (b ≡ true)
 both-true true b e = (refl, e)
 both-true false b e = absurd (true≢false (sym e))
@@ -146,6 +152,15 @@ zero-passes lines e z = go (number-tested (ltb 0) lines e)
     go : (tried lines ≡ Passed) ⊎ (ltb 0 (numberOf (tried lines)) ≡ true) → tried lines ≡ Passed
     go (inl p) = p
     go (inr h) = absurd (omega (arith, z, ltb-true 0 (numberOf (tried lines)) h))
+
+-- so a number says as much as the check
+pub numbered-is : (lines : List Line) → everyNumber (ltb 0) lines ≡ true → numbered (numberOf (tried lines)) ≡ tried lines
+numbered-is lines e = go (tried lines) (zero-passes lines e)
+  where
+    go : (k : Checked) → (numberOf k ≡ 0 → k ≡ Passed) → numbered (numberOf k) ≡ k
+    go Passed h = refl
+    go (Refused zero) h = sym (h refl)
+    go (Refused (suc number)) h = refl
 
 -- a last line whose refusal stands for the result too, where no line before it has its number
 pub unless-but : {A : Type 0} (result other : A) (lines : List Line) (number : ℕ) (met : Bool) → everyNumber (λ m. not (eqb m number)) lines ≡ true

@@ -5,13 +5,14 @@ use Prim.Native.Nat.{ℕ}
 use lib.ListN.{length}
 use Rattle.words.specs.Words.{sign}
 use Rattle.checks.specs.Lines.{Line, _unless_then_, recordLines, rangeLine, startLine}
+use Rattle.checks.specs.declared.Checked.{Checked}
 use Rattle.compare.specs.declared.suffixes.Comparison.{Comparison}
 use Rattle.compare.specs.declared.suffixes.Comparison.the-variants.{Sign, Refused}
 
--- paper 01's number of an answer: 0 for a result
-abbrev pub signRefusal : Comparison → ℕ
-signRefusal (Sign s) = 0
-signRefusal (Refused number) = number
+-- what an answer says: a result, or paper 01's number of the refusal
+abbrev pub signChecked : Comparison → Checked
+signChecked (Sign s) = Checked.Passed
+signChecked (Refused number) = Checked.Refused number
 
 -- the lines of the table that the comparison tries: 1, 2, 5 and 6, the last for each of the two starts
 abbrev pub compareLines : List ℕ → ℕ → ℕ → ℕ → ℕ → List Line

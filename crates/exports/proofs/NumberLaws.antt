@@ -24,8 +24,8 @@ use Rattle.checks.proofs.LineLaws.{reading}
 use Rattle.checks.proofs.RecordLaws.{accepted}
 use Rattle.extension.proofs.Extension.{the-type}
 use Rattle.extension.specs.declared.Extension.{Extension}
-use Rattle.extension.specs.Extension.{extensionOf, testRefusal, extensionLines, ExtensionFound}
-use Rattle.extension.proofs.VerdictLaws.{fails-told, verdict-read, verdict-refusal}
+use Rattle.extension.specs.Extension.{extensionOf, testChecked, extensionLines, ExtensionFound}
+use Rattle.extension.proofs.VerdictLaws.{fails-told, verdict-read, verdict-checked}
 use Rattle.icfl.specs.Icfl.{IcflDone}
 use Rattle.cfl.specs.CflIn.{CflInDone}
 use Rattle.table.specs.Table.{Tabled}
@@ -83,11 +83,11 @@ borderOf (Extension.Failing l p r) = r
 borderOf (Extension.Refused e) = 0
 
 pub test-numbers : (w work work′ : List ℕ) (a : Extension) → ExtensionFound w work a work′
-    → TestNumbers w work (testRefusal a) (failingOf a) (prefixOf a) (borderOf a) work′
+    → TestNumbers w work (numberOf (testChecked a)) (failingOf a) (prefixOf a) (borderOf a) work′
 test-numbers w work work′ a f =
     let k = tried (extensionLines w (length work)) in
     record {
-      refusal = ap testRefusal (f .answer) ∙ verdict-refusal w k;
+      refusal = ap (λ t. numberOf (testChecked t)) (f .answer) ∙ ap numberOf (verdict-checked w k);
       failing-is =
           ap failingOf (f .answer)
           ∙ verdict-read failingOf (ifFailing (failingLength w)) (λ number. 0) w (λ t. elim t [ true ↦ refl | false ↦ refl ]) (λ number. refl) k;

@@ -1,5 +1,5 @@
--- What an answer tells that is the verdict on v: failing (fails-told), inverse Lyndon (holds-told); and the number of the test's answer
--- (verdict-refusal).
+-- What an answer tells that is the verdict on v: failing (fails-told), inverse Lyndon (holds-told); and what the test's answer says
+-- (verdict-checked).
 use mathlib.Core.Path.{_≡_, refl}
 use mathlib.Core.Bool.{Bool, true, false}
 use mathlib.Core.Logic.{inl, inr}
@@ -17,10 +17,10 @@ use Rattle.words.specs.icfl.BorderLength.{step-is}
 use Rattle.words.specs.icfl.Failing.{failing-is}
 use Rattle.words.specs.icfl.IcflFactors.{prefix-positive}
 use Rattle.checks.specs.Lines.{decided}
-use Rattle.checks.specs.Answers.{numberOf}
 use Rattle.checks.specs.declared.Checked.{Checked}
+use Rattle.checks.proofs.LineLaws.{said}
 use Rattle.extension.specs.declared.Extension.{Extension}
-use Rattle.extension.specs.Extension.{verdictAs, extensionOf, testRefusal}
+use Rattle.extension.specs.Extension.{verdictAs, extensionOf, testChecked}
 use Rattle.extension.proofs.Extension.{the-type}
 
 pub record Fails (v : List ℕ) (l p r : ℕ) : Type 0 where
@@ -72,5 +72,10 @@ unfolding extensionOf
 verdict-read f g h w x y Checked.Passed = x (isInverseLyndon w)
 verdict-read f g h w x y (Checked.Refused number) = y number
 
-pub verdict-refusal : (w : List ℕ) (k : Checked) → testRefusal (decided k (extensionOf w) Extension.Refused) ≡ numberOf k
-verdict-refusal w k = verdict-read testRefusal (λ t. 0) (λ number. number) w (λ t. elim t [ true ↦ refl | false ↦ refl ]) (λ number. refl) k
+pub verdict-checked : (w : List ℕ) (k : Checked) → testChecked (decided k (extensionOf w) Extension.Refused) ≡ k
+unfolding extensionOf
+verdict-checked w k = said testChecked (extensionOf w) (λ (i : ℕ). Extension.Refused i) (go (isInverseLyndon w)) (λ n. refl) k
+  where
+    go : (t : Bool) → testChecked (verdictAs t (failingLength w) (prefixLength w) (borderLength w)) ≡ Checked.Passed
+    go true = refl
+    go false = refl

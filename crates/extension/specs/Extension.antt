@@ -10,6 +10,7 @@ use Rattle.words.specs.scan.Scanned.{Scanned}
 use Rattle.words.specs.scan.ScannedBorders.{Table}
 use Rattle.buffers.specs.Buffers.{cleared}
 use Rattle.checks.specs.Lines.{Line, _unless_then_, recordLines, workLine}
+use Rattle.checks.specs.declared.Checked.{Checked}
 use Rattle.scan.specs.State.{Rests}
 use Rattle.scan.specs.declared.Scan.{Scan}
 use Rattle.extension.specs.declared.Extension.{Extension}
@@ -23,11 +24,11 @@ verdictAs false failing prefix border = Failing failing prefix border
 unfoldable pub extensionOf : List ℕ → Extension
 extensionOf w = verdictAs (isInverseLyndon w) (failingLength w) (prefixLength w) (borderLength w)
 
--- paper 01's number of an answer: 0 for a result
-abbrev pub testRefusal : Extension → ℕ
-testRefusal InverseLyndon = 0
-testRefusal (Failing failing prefix border) = 0
-testRefusal (Refused number) = number
+-- what an answer says: a result, or paper 01's number of the refusal
+abbrev pub testChecked : Extension → Checked
+testChecked InverseLyndon = Checked.Passed
+testChecked (Failing failing prefix border) = Checked.Passed
+testChecked (Refused number) = Checked.Refused number
 
 -- the lines of the table that the test tries: 1, 2 and 3
 abbrev pub extensionLines : List ℕ → ℕ → List Line

@@ -20,7 +20,7 @@
 --     lyndonTable                 start table                                      longest anti-Lyndon word at each place
 --   Statements
 --     CflInOf                     "the only division .."      Theorem 2.1          anti-Lyndon words, none before the next one in ≺
---     BoundedExtension            L, |p|, |r|                 Definition 4.1       the sentences that fix them, a field each
+--     BoundedExtension            L, |p|, |r|                 Definition 4.2       the sentences that fix them, a field each
 --     DominatedBy                                                                  every nonempty suffix of one is ≪ the other
 --     BelowByBorders              request 109                                      the same said by borders
 --     Demand3                     demand 3                    Corollary 7.2, 7.13  the demand's sentences, a field each
