@@ -1,6 +1,7 @@
--- The lines of the table, whatever they are: what is known in the two branches of `let Checked::Passed = k else` (passed, refused), lines that are
--- tried in two parts (both, refused-first, passed-first), what it tells that all pass (unmet, all-pass), what an answer says (reading, said), which
--- numbers can come (first-listed, zero-passes, numbered-is, unless-but), and calls that fill a result buffer (filled-refused, filled-done, and back: filled-counted, filled-number).
+-- The lines of the table, whatever they are: what is known in the two branches of `let Checked::Passed = k else` (passed, refused, not-both), lines
+-- that are tried in two parts (both, refused-first, passed-first), what it tells that all pass (unmet, all-pass), what an answer says (reading, said), which
+-- numbers can come (first-listed, zero-passes, numbered-is, unless-but), and calls that fill a result buffer (filled-refused, filled-done, and back:
+-- filled-counted, filled-number).
 use mathlib.Core.Path.{_≡_, refl, ap, sym, _∙_}
 use mathlib.Core.Bool.{Bool, true, false, not, _||_, _&&_, true≢false}
 use mathlib.Core.Logic.{_⊎_, inl, inr}
@@ -35,6 +36,10 @@ is-passed (Refused number) h = let z : _≡_ {A = ℕ} 1 0 = h in absurd (omega 
 is-refused : {A : Type 0} (k : Checked) (result : A) (refusal : ℕ → A) → IsRefused k → refusal (numberOf k) ≡ decided k result refusal
 is-refused Passed result refusal h = let z : _≡_ {A = ℕ} 0 1 = h in absurd (omega arith)
 is-refused (Refused number) result refusal h = refl
+
+-- a check says one of the two
+pub not-both : {k : Checked} {e : ℕ} → k ≡ Refused e → ¬ (k ≡ Passed)
+not-both x y = let b : _≡_ {A = ℕ} 0 1 = cc in absurd (omega arith)
 
 pub passed : (lines : List Line) {k : Checked} → k ≡ tried lines → IsPassed k → tried lines ≡ Passed
 passed lines {k} e h = sym e ∙ is-passed k h

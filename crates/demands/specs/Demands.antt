@@ -1,48 +1,116 @@
--- DEFINITIONS. The customer's three demands at the calls: what follows for every answer that meets a call's promise. Each field carries the customer's
--- sentence. That every call ends, and without undefined behaviour, is what the proof of its function says. The theorems are in DemandsHold.
+-- DEFINITIONS. The customer's three demands, stated once about seven calls. The library's calls are such seven, and so are the exported functions: that the
+-- demands hold of both are the theorems library-demands and exported-demands (DemandsHold). Each field carries the customer's sentence. That every call ends,
+-- and without undefined behaviour, is what the proof of its function says.
 use mathlib.Core.Path.{_≡_}
+use mathlib.Core.Bool.{true, false}
 use mathlib.Core.Logic.{_⊎_}
 use mathlib.Core.List.{List, [], _∷_, _++_, List·Memᴰ}
-use Prim.Native.Nat.{ℕ, _-_, _≤_, _<_}
-use lib.ListN.{length, take, drop, getD}
+use Prim.Native.Nat.{ℕ, _-_, _*_, _≤_, _<_}
+use lib.ListN.{length, take, drop, getD, replicate}
 use lib.Seq.{slice}
-use lib.IntN.{pos, negsuc}
+use lib.IntN.{ℤ, pos, negsuc}
+use lib.Dec.{eqb}
 use Rattle.words.specs.Words.{mostLetters, _≪_, _⊑_, _<ₗ_, InverseLyndon, AntiLyndon}
-use Rattle.words.specs.Factorizations.{icfl, icflEnds, cflIn, cflInEnds, lyndonTable, joinFirst, prefixLength, borderLength}
-use Rattle.words.specs.Statements.{CflInOf, Part}
-use Rattle.checks.specs.Lines.{Line, tried}
-use Rattle.checks.specs.Answers.{numberOf, countRefusal}
+use Rattle.words.specs.Factorizations.{icfl, icflEnds, cflIn, cflInEnds, lyndonTable, joinFirst, failingLength, prefixLength, borderLength}
+use Rattle.words.specs.Statements.{BoundedExtension, CflInOf, Part, WholePieces, Compatible}
+use Rattle.checks.specs.Lines.{Line, tried, decided}
+use Rattle.checks.specs.Answers.{numbered, countChecked}
+use Rattle.checks.specs.declared.Checked.{Checked}
+use Rattle.checks.specs.declared.Checked.the-variants.{Passed, Refused}
 use Rattle.checks.specs.declared.Counted.{Counted}
 use Rattle.extension.specs.declared.Extension.{Extension}
-use Rattle.extension.specs.Extension.{testRefusal, extensionLines, ExtensionFound}
+use Rattle.extension.specs.Extension.{testChecked, extensionLines, ExtensionFound}
 use Rattle.icfl.specs.Icfl.{icflLines, IcflDone}
 use Rattle.cfl.specs.CflIn.{cflInLines, CflInDone}
 use Rattle.table.specs.Table.{tableLines, Tabled}
 use Rattle.compare.specs.declared.suffixes.Comparison.{Comparison}
-use Rattle.compare.specs.Compare.{signRefusal, compareLines, Compared}
+use Rattle.compare.specs.Compare.{signChecked, compareLines, Compared}
 use Rattle.reading.specs.declared.summary.Summary.{Summary}
 use Rattle.reading.specs.Factor.{factorLines, FactorAt}
 use Rattle.reading.specs.Summary.{summaryLines, Summarized}
+use Rattle.exports.specs.Exports.{TestNumbers, IcflNumbers, CflInNumbers, TableNumbers, SignNumber, FactorNumbers}
+
+-- ---- seven calls: which answers each may give, with which contents of the lent buffers afterwards
+
+pub record Calls : Type 1 where
+  pub Test : (w work : List ℕ) (r : Extension) (work′ : List ℕ) → Type 0
+  pub PieceCut : (w work ends : List ℕ) (r : Counted) (work′ ends′ : List ℕ) → Type 0
+  pub StrictCut : (w ends : List ℕ) (r : Counted) (ends′ : List ℕ) → Type 0
+  pub StartTable : (w out : List ℕ) (r : Counted) (out′ : List ℕ) → Type 0
+  pub Comparing : (w : List ℕ) (first end start other : ℕ) (r : Comparison) → Type 0
+  pub Reading : (w es : List ℕ) (k : ℕ) (part : List ℕ) (number : ℕ) → Type 0
+  pub Summing : (w es : List ℕ) (r : Summary) → Type 0
+
+-- the library's calls, by their promises
+abbrev pub library : Calls
+library = record {
+  Test = ExtensionFound;
+  PieceCut = IcflDone;
+  StrictCut = CflInDone;
+  StartTable = Tabled;
+  Comparing = Compared;
+  Reading = FactorAt;
+  Summing = Summarized;
+}
+
+-- what the numbers of an exported function stand for: a refusal's number, 0 for a result, and the result's; L is 0 for an inverse Lyndon word
+abbrev pub verdictBy : (number failing prefix border : ℕ) → Extension
+verdictBy number failing prefix border =
+    decided (numbered number) (elim (eqb failing 0) [ true ↦ Extension.InverseLyndon | false ↦ Extension.Failing failing prefix border ]) Extension.Refused
+
+abbrev pub countBy : (number count : ℕ) → Counted
+countBy number count = decided (numbered number) (Counted.Count count) Counted.Refused
+
+abbrev pub signBy : (number : ℕ) (sign : ℤ) → Comparison
+signBy number sign = decided (numbered number) (Comparison.Sign sign) Comparison.Refused
+
+-- the exported functions, by their promises in numbers
+abbrev pub exported : Calls
+exported = record {
+  Test = λ w work r work′. (e l p b : ℕ) × (r ≡ verdictBy e l p b) × TestNumbers w work e l p b work′;
+  PieceCut = λ w work ends r work′ ends′. (e n : ℕ) × (r ≡ countBy e n) × IcflNumbers w work ends e n work′ ends′;
+  StrictCut = λ w ends r ends′. (e n : ℕ) × (r ≡ countBy e n) × CflInNumbers w ends e n ends′;
+  StartTable = λ w out r out′. (e n : ℕ) × (r ≡ countBy e n) × TableNumbers w out e n out′;
+  Comparing = λ w first end start other r. (e : ℕ) × (s : ℤ) × (r ≡ signBy e s) × SignNumber w first end start other e s;
+  Reading = λ w es k part number. (i j : ℕ) × (part ≡ slice i j w) × FactorNumbers w es k number i j;
+  Summing = Summarized;
+}
 
 -- ---- demand 1: "The answer to every call, for every input, is a result or one of eight numbered refusals; .. and paper 01 fixes the condition, the order and
--- every buffer for each refusal." The buffers are in the promises themselves.
+-- every buffer for each refusal."
 
--- e is the number of the first line that is met, and is 0 or one of the numbers that paper 01 gives the call
-pub record Answers (numbers : List ℕ) (lines : List Line) (e : ℕ) : Type 0 where
-  pub first : e ≡ numberOf (tried lines)
-  pub listed : (e ≡ 0) ⊎ List·Memᴰ e numbers
+-- a result where no line is met, and otherwise the number of the first that is: one of those that paper 01 gives the call, and never 0
+pub record Answers (numbers : List ℕ) (lines : List Line) (said : Checked) : Type 0 where
+  pub first : said ≡ tried lines
+  pub listed : (e : ℕ) → said ≡ Refused e → List·Memᴰ e numbers
+  pub positive : (e : ℕ) → said ≡ Refused e → 0 < e
 
-pub record Demand1 : Type 0 where
-  pub test : (w work work′ : List ℕ) (r : Extension) → ExtensionFound w work r work′
-      → Answers (1 ∷ 2 ∷ 3 ∷ []) (extensionLines w (length work)) (testRefusal r)
-  pub pieceCut : (w work ends work′ ends′ : List ℕ) (r : Counted) → IcflDone w work ends r work′ ends′
-      → Answers (1 ∷ 2 ∷ 3 ∷ 4 ∷ []) (icflLines w (length work) (length ends)) (countRefusal r)
-  pub strictCut : (w ends ends′ : List ℕ) (r : Counted) → CflInDone w ends r ends′ → Answers (1 ∷ 2 ∷ 4 ∷ []) (cflInLines w (length ends)) (countRefusal r)
-  pub startTable : (w out out′ : List ℕ) (r : Counted) → Tabled w out r out′ → Answers (1 ∷ 2 ∷ 4 ∷ []) (tableLines w (length out)) (countRefusal r)
-  pub comparison : (w : List ℕ) (first end start other : ℕ) (r : Comparison) → Compared w first end start other r
-      → Answers (1 ∷ 2 ∷ 5 ∷ 6 ∷ []) (compareLines w first end start other) (signRefusal r)
-  pub reader : (w es : List ℕ) (k : ℕ) (part : List ℕ) (number : ℕ) → FactorAt w es k part number → Answers (1 ∷ 2 ∷ 7 ∷ 8 ∷ []) (factorLines w es k) number
-  pub summary : (w es : List ℕ) (r : Summary) → Summarized w es r → Answers (1 ∷ 2 ∷ 7 ∷ []) (summaryLines w es) (r .refusal)
+-- "Result buffers are untouched by a refusal."
+abbrev pub Untouched : Checked → List ℕ → List ℕ → Type 0
+Untouched said buffer buffer′ = (e : ℕ) → said ≡ Refused e → buffer′ ≡ buffer
+
+-- "Every refusal but 4 leaves the work buffer untouched too. .. after a cut refused by 4, the entries counted in line 3 are zero and later ones unchanged."
+pub record UntouchedBut4 (n : ℕ) (said : Checked) (work work′ : List ℕ) : Type 0 where
+  pub kept : (e : ℕ) → said ≡ Refused e → ¬ (e ≡ 4) → work′ ≡ work
+  pub zeros : said ≡ Refused 4 → take n work′ ≡ replicate n 0
+  pub later : said ≡ Refused 4 → drop n work′ ≡ drop n work
+
+-- the comparison, the reader and the summary write to no buffer
+pub record Demand1 (c : Calls) : Type 0 where
+  pub test : (w work work′ : List ℕ) (r : Extension) → c .Test w work r work′
+      → Answers (1 ∷ 2 ∷ 3 ∷ []) (extensionLines w (length work)) (testChecked r) × Untouched (testChecked r) work work′
+  pub pieceCut : (w work ends work′ ends′ : List ℕ) (r : Counted) → c .PieceCut w work ends r work′ ends′
+      → Answers (1 ∷ 2 ∷ 3 ∷ 4 ∷ []) (icflLines w (length work) (length ends)) (countChecked r) × Untouched (countChecked r) ends ends′
+      × UntouchedBut4 (3 * length w) (countChecked r) work work′
+  pub strictCut : (w ends ends′ : List ℕ) (r : Counted) → c .StrictCut w ends r ends′
+      → Answers (1 ∷ 2 ∷ 4 ∷ []) (cflInLines w (length ends)) (countChecked r) × Untouched (countChecked r) ends ends′
+  pub startTable : (w out out′ : List ℕ) (r : Counted) → c .StartTable w out r out′
+      → Answers (1 ∷ 2 ∷ 4 ∷ []) (tableLines w (length out)) (countChecked r) × Untouched (countChecked r) out out′
+  pub comparison : (w : List ℕ) (first end start other : ℕ) (r : Comparison) → c .Comparing w first end start other r
+      → Answers (1 ∷ 2 ∷ 5 ∷ 6 ∷ []) (compareLines w first end start other) (signChecked r)
+  pub reader : (w es : List ℕ) (k : ℕ) (part : List ℕ) (number : ℕ) → c .Reading w es k part number
+      → Answers (1 ∷ 2 ∷ 7 ∷ 8 ∷ []) (factorLines w es k) (numbered number)
+  pub summary : (w es : List ℕ) (r : Summary) → c .Summing w es r → Answers (1 ∷ 2 ∷ 7 ∷ []) (summaryLines w es) (numbered (r .refusal))
 
 -- ---- demand 2, for a record w
 
@@ -51,17 +119,22 @@ pub record Gave (vs : List ℕ) (r : Counted) (buffer′ : List ℕ) : Type 0 wh
   pub count : r ≡ Counted.Count (length vs)
   pub entries : take (length vs) buffer′ ≡ vs
 
-pub record Demand2 (w : List ℕ) : Type 0 where
+pub record Demand2 (c : Calls) (w : List ℕ) : Type 0 where
   -- "The pieces of a record of 1 to 4,096 bytes are those of the published recursive definition"
-  pub pieces : (work ends work′ ends′ : List ℕ) (r : Counted) → IcflDone w work ends r work′ ends′ → countRefusal r ≡ 0 → Gave (icflEnds w) r ends′
+  pub pieces : (work ends work′ ends′ : List ℕ) (r : Counted) → c .PieceCut w work ends r work′ ends′ → countChecked r ≡ Passed → Gave (icflEnds w) r ends′
   pub whole : InverseLyndon w → icfl w ≡ w ∷ []
   pub step : ¬ InverseLyndon w → icfl w ≡ joinFirst (take (prefixLength w) w) (borderLength w) (icfl (drop (prefixLength w) w))
+  -- whose L, |p| and |r| are these; and 'the test answers "falling", or "failing" with L, |p| and |r|'
+  pub extension : ¬ InverseLyndon w → BoundedExtension w (failingLength w) (prefixLength w) (borderLength w)
+  pub falls : (work work′ : List ℕ) → c .Test w work Extension.InverseLyndon work′ → InverseLyndon w
+  pub fails : (work work′ : List ℕ) (l p r : ℕ) → c .Test w work (Extension.Failing l p r) work′ → BoundedExtension w l p r
   -- "the strict pieces are its Lyndon factors in the inverse byte order"
-  pub strictPieces : (ends ends′ : List ℕ) (r : Counted) → CflInDone w ends r ends′ → countRefusal r ≡ 0 → Gave (cflInEnds w) r ends′
+  pub strictPieces : (ends ends′ : List ℕ) (r : Counted) → c .StrictCut w ends r ends′ → countChecked r ≡ Passed → Gave (cflInEnds w) r ends′
   pub factors : CflInOf w (cflIn w)
   pub only : (ls : List (List ℕ)) → CflInOf w ls → ls ≡ cflIn w
   -- "and the start table holds the length of the longest strict word at each place."
-  pub table : (out out′ : List ℕ) (r : Counted) → Tabled w out r out′ → countRefusal r ≡ 0 → Gave (lyndonTable w) r out′
+  pub table : (out out′ : List ℕ) (r : Counted) → c .StartTable w out r out′ → countChecked r ≡ Passed → Gave (lyndonTable w) r out′
+  pub inside : (i : ℕ) → i < length w → getD (lyndonTable w) i 0 ≤ length w - i
   pub longest : (i : ℕ) → i < length w → AntiLyndon (take (getD (lyndonTable w) i 0) (drop i w))
   pub noLonger : (i n : ℕ) → i < length w → getD (lyndonTable w) i 0 < n → n ≤ length w - i → ¬ AntiLyndon (take n (drop i w))
 
@@ -70,23 +143,29 @@ pub record Demand2 (w : List ℕ) : Type 0 where
 pub record Demand3 (w es ss : List ℕ) (compare : ℕ → ℕ → ℕ → ℕ → Comparison) : Type 0 where
   -- "For every stretch of whole neighbouring pieces and every two different starting minutes inside it, the inverse order found from that stretch alone is
   -- exactly the one found when both run to the record's end."
-  pub compatible : (first end start other : ℕ) → List·Memᴰ first (0 ∷ es) → List·Memᴰ end es
-      → first ≤ start → start < end → first ≤ other → other < end → ¬ (start ≡ other)
-      → compare first end start other ≡ compare 0 (length w) start other
-  pub decided : (first end start other : ℕ) → List·Memᴰ first (0 ∷ es) → List·Memᴰ end es
-      → first ≤ start → start < end → first ≤ other → other < end → ¬ (start ≡ other)
+  pub compatible : Compatible (WholePieces es) (length w) compare
+  pub decided : (first end start other : ℕ) → WholePieces es first end → first ≤ start → start < end → first ≤ other → other < end → ¬ (start ≡ other)
       → (compare first end start other ≡ Comparison.Sign (negsuc 0)) ⊎ (compare first end start other ≡ Comparison.Sign (pos 1))
   -- "In natural byte order each piece exceeds every shorter ending of its own, and each but the last loses to the next piece at a byte that both have."
   pub exceeds : (i j : ℕ) → Part es i j → (u s : List ℕ) → u ++ s ≡ slice i j w → 0 < length u → 0 < length s → s <ₗ slice i j w
   pub loses : (i j k : ℕ) → Part es i j → Part es j k → slice i j w ≪ slice j k w
-  -- "Every piece ends where a strict piece ends, and wherever a strict piece and the one after it lie in one piece, the first begins with the whole of the second."
+  -- "Every piece ends where a strict piece ends, and wherever a strict piece and the one after it lie in one piece, the first begins with the whole of the
+  -- second."
   pub strict : (e : ℕ) → List·Memᴰ e es → List·Memᴰ e ss
   pub nested : (a b i j k : ℕ) → Part es a b → Part ss i j → Part ss j k → a ≤ i → k ≤ b → slice j k w ⊑ slice i j w
 
--- what the three calls gave for one record of 1 to 4,096 bytes
-pub record Runs (w es ss : List ℕ) (compare : ℕ → ℕ → ℕ → ℕ → Comparison) : Type 0 where
+-- what three calls gave for one record of 1 to 4,096 bytes
+pub record Runs (c : Calls) (w es ss : List ℕ) (compare : ℕ → ℕ → ℕ → ℕ → Comparison) : Type 0 where
   pub nonempty : 1 ≤ length w
   pub short : length w ≤ mostLetters
-  pub pieceCut : (work ends work′ ends′ : List ℕ) × (n : ℕ) × IcflDone w work ends (Counted.Count n) work′ ends′ × (es ≡ take n ends′)
-  pub strictCut : (ends ends′ : List ℕ) × (n : ℕ) × CflInDone w ends (Counted.Count n) ends′ × (ss ≡ take n ends′)
-  pub comparison : (first end start other : ℕ) → Compared w first end start other (compare first end start other)
+  pub pieceCut : (work ends work′ ends′ : List ℕ) × (n : ℕ) × c .PieceCut w work ends (Counted.Count n) work′ ends′ × (es ≡ take n ends′)
+  pub strictCut : (ends ends′ : List ℕ) × (n : ℕ) × c .StrictCut w ends (Counted.Count n) ends′ × (ss ≡ take n ends′)
+  pub comparison : (first end start other : ℕ) → c .Comparing w first end start other (compare first end start other)
+
+-- ---- all three; and for every record there is what the third speaks of
+
+pub record Demands (c : Calls) : Type 0 where
+  pub first : Demand1 c
+  pub second : (w : List ℕ) → 1 ≤ length w → length w ≤ mostLetters → Demand2 c w
+  pub third : (w es ss : List ℕ) (compare : ℕ → ℕ → ℕ → ℕ → Comparison) → Runs c w es ss compare → Demand3 w es ss compare
+  pub given : (w : List ℕ) → 1 ≤ length w → length w ≤ mostLetters → (es ss : List ℕ) × (compare : ℕ → ℕ → ℕ → ℕ → Comparison) × Runs c w es ss compare

@@ -1,17 +1,21 @@
--- THEOREMS demand-1, demand-2, demand-3: the customer's demands hold of every answer that meets the calls' promises.
+-- THEOREMS library-demands, exported-demands: the customer's demands hold of the library's calls and of the exported functions; demand-1, demand-2, demand-3:
+-- they hold of all calls whose answers meet the promises.
 use mathlib.Core.Path.{_≡_, refl, ap, sym, _∙_}
-use mathlib.Core.Bool.{true}
+use mathlib.Core.Bool.{Bool, true, false}
 use mathlib.Core.Logic.{_⊎_, inl, inr}
-use mathlib.Core.List.{List, _∷_, List·Memᴰ}
-use Prim.Native.Nat.{ℕ, _≤_, _<_}
+use mathlib.Core.List.{List, List·Memᴰ}
+use Prim.Native.Nat.{ℕ, zero, suc, _-_, _≤_, _<_}
 use native.Mathlib.Omega.{arith}
-use lib.ListN.{length, take, drop, length-drop}
-use lib.Seq.{take-at}
+use lib.ListN.{length, take, drop, replicate, length-drop, length-replicate}
+use lib.Seq.{take-at, drop-at}
 use lib.IntN.{ℤ, pos, negsuc}
 use lib.Dec.{ltb}
-use Rattle.words.specs.Words.{mostLetters, sign}
+use borrow.Author.Tests.{ne-eqb}
+use Rattle.words.specs.Words.{mostLetters, InverseLyndon, sign}
 use Rattle.words.specs.Factorizations.{icfl, icflEnds, cflInEnds}
+use Rattle.words.specs.Statements.{BoundedExtension, WholePieces}
 use Rattle.words.specs.lyndon.AntiLyndonLaws.{longest-is, longest-positive}
+use Rattle.words.specs.icfl.BoundedExtension.{extension-is}
 use Rattle.words.specs.uniqueness.IcflUnfold.{icfl-whole, icfl-step}
 use Rattle.words.specs.cfl_in.CflInIs.{cfl-in-is}
 use Rattle.words.specs.cfl_in.CflInUnique.{cfl-in-unique}
@@ -19,124 +23,206 @@ use Rattle.words.specs.table.LyndonTableCflIn.{lyndon-table-length, lyndon-tabl
 use Rattle.words.specs.places.Ends.{ends-boundary}
 use Rattle.words.specs.orders.SignLaws.{SignOf, before, equal, after, sign-is}
 use Rattle.words.specs.places.Demand3 as theory
-use Rattle.checks.specs.Lines.{Line, tried, decided}
-use Rattle.checks.specs.Answers.{numberOf, countRefusal, Filled}
+use Rattle.buffers.specs.Buffers.{cleared}
+use Rattle.checks.specs.Lines.{Line, tried, decided, _unless_then_}
+use Rattle.checks.specs.Answers.{numbered, numberOf, countChecked, Filled}
 use Rattle.checks.specs.declared.Checked.{Checked}
 use Rattle.checks.specs.declared.Checked.the-variants.{Passed, Refused}
 use Rattle.checks.specs.declared.Counted.{Counted}
-use Rattle.checks.proofs.LineLaws.{reading, everyNumber, among, first-listed, zero-passes, filled-counted}
-use Rattle.extension.specs.Extension.{testRefusal, extensionLines}
-use Rattle.extension.proofs.VerdictLaws.{verdict-refusal}
+use Rattle.checks.proofs.LineLaws.{not-both, said, everyNumber, among, first-listed, zero-passes, numbered-is, filled-counted}
+use Rattle.extension.specs.declared.Extension.{Extension}
+use Rattle.extension.specs.Extension.{extensionOf, testChecked, extensionLines, ExtensionFound}
+use Rattle.extension.proofs.VerdictLaws.{fails-told, holds-told, verdict-checked}
+use Rattle.icfl.specs.Icfl.{workAfter}
 use Rattle.compare.specs.declared.suffixes.Comparison.{Comparison}
-use Rattle.compare.specs.Compare.{signRefusal, compareLines}
+use Rattle.compare.specs.Compare.{signChecked, compareLines}
 use Rattle.compare.proofs.ComparisonLaws.{Within, within-passes}
 use Rattle.reading.specs.Summary.{summaryLines, summaryOf, emptySummary}
-use Rattle.demands.specs.Demands.{Answers, Demand1, Gave, Demand2, Demand3, Runs}
+use Rattle.demands.specs.Demands.{Calls, library, exported, Answers, Untouched, UntouchedBut4, Demand1, Gave, Demand2, Demand3, Runs, Demands}
+use Rattle.demands.specs.Meets.{Meets, Total, library-meets, library-total, exported-meets, exported-total}
+use Rattle.demands.specs.RunsExist.{runs-exist}
 
 -- ---- demand 1
 
 -- which numbers a call can give is read off its lines
-answers : {e : ℕ} (numbers : List ℕ) (lines : List Line) → e ≡ numberOf (tried lines) → everyNumber (among numbers) lines ≡ true → Answers numbers lines e
-answers {e} numbers lines z h = record { first = z; listed = go (first-listed lines numbers h) }
-  where
-    go : (tried lines ≡ Passed) ⊎ List·Memᴰ (numberOf (tried lines)) numbers → (e ≡ 0) ⊎ List·Memᴰ e numbers
-    go (inl p) = inl (z ∙ ap numberOf p)
-    go (inr m) = inr (rw z m)
-
-filled-refusal : {lines : List Line} {n : ℕ} {vs buffer buffer′ : List ℕ} {r : Counted} → Filled lines n vs buffer r buffer′
-    → countRefusal r ≡ numberOf (tried lines)
-filled-refusal {lines} {n} f = ap countRefusal (f .answer) ∙ reading countRefusal (Counted.Count n) (λ (i : ℕ). Counted.Refused i) (tried lines)
-
-summary-refusal : (es : List ℕ) (k : Checked) → decided k (summaryOf es) emptySummary .refusal ≡ numberOf k
-unfolding summaryOf
-summary-refusal es (Refused number) = refl
-summary-refusal es Passed = refl
-
-pub demand-1 : Demand1
-demand-1 = record {
-  test = λ w work work′ r f. answers _ _ (ap testRefusal (f .answer) ∙ verdict-refusal w (tried (extensionLines w (length work)))) refl;
-  pieceCut = λ w work ends work′ ends′ r f. answers _ _ (filled-refusal (f .filled)) refl;
-  strictCut = λ w ends ends′ r f. answers _ _ (filled-refusal f) refl;
-  startTable = λ w out out′ r f. answers _ _ (filled-refusal f) refl;
-  comparison = λ w first end start other r f. answers _ _
-      (ap signRefusal (f .answer)
-      ∙ reading signRefusal (Comparison.Sign (sign w first end start other)) (λ (i : ℕ). Comparison.Refused i) (tried (compareLines w first end start other)))
-      refl;
-  reader = λ w es k part number f. answers _ _ (f .number-is) refl;
-  summary = λ w es r f. answers _ _ (ap (λ s. s .refusal) (f .answer) ∙ summary-refusal es (tried (summaryLines w es))) refl;
+answers : {k : Checked} (numbers : List ℕ) (lines : List Line) → k ≡ tried lines → everyNumber (among numbers) lines ≡ true → everyNumber (ltb 0) lines ≡ true
+    → Answers numbers lines k
+answers {k} numbers lines z h p = record {
+  first = z;
+  listed = λ e y. go e (sym z ∙ y) (first-listed lines numbers h);
+  positive = λ e y. above e (sym z ∙ y);
 }
+  where
+    go : (e : ℕ) → tried lines ≡ Refused e → (tried lines ≡ Passed) ⊎ List·Memᴰ (numberOf (tried lines)) numbers → List·Memᴰ e numbers
+    go e y (inl x) = absurd (not-both y x)
+    go e y (inr m) = rw y at m
+
+    above : (e : ℕ) → tried lines ≡ Refused e → 0 < e
+    above zero y = absurd (not-both y (zero-passes lines p (ap numberOf y)))
+    above (suc e) y = omega arith
+
+numbered-answers : {e : ℕ} (numbers : List ℕ) (lines : List Line) → e ≡ numberOf (tried lines) → everyNumber (among numbers) lines ≡ true
+    → everyNumber (ltb 0) lines ≡ true → Answers numbers lines (numbered e)
+numbered-answers numbers lines z h p = answers numbers lines (ap numbered z ∙ numbered-is lines p) h p
+
+filled-says : {lines : List Line} {n : ℕ} {vs buffer buffer′ : List ℕ} {r : Counted} → Filled lines n vs buffer r buffer′ → countChecked r ≡ tried lines
+filled-says {lines} {n} f = ap countChecked (f .answer) ∙ said countChecked (Counted.Count n) (λ (i : ℕ). Counted.Refused i) refl (λ number. refl) (tried lines)
+
+-- a buffer that is changed only where no line is met
+untouched : {k : Checked} (lines : List Line) (buffer result : List ℕ) {buffer′ : List ℕ} → k ≡ tried lines
+    → buffer′ ≡ result unless lines then (λ number. buffer) → Untouched k buffer buffer′
+untouched lines buffer result z f e y = rw (sym z ∙ y) at f
+
+untouched-but-4 : {k : Checked} (lines : List Line) (n : ℕ) (work : List ℕ) {work′ : List ℕ} → k ≡ tried lines
+    → work′ ≡ cleared n work unless lines then workAfter n work → UntouchedBut4 n k work work′
+untouched-but-4 {k} lines n work {work′} z f = record {
+  kept = λ e y h. (rw (sym z ∙ y) at f) ∙ ap (λ (t : Bool). elim t [ true ↦ cleared n work | false ↦ work ]) (ne-eqb e 4 h);
+  zeros = λ y. rw (at-4 y) (take-at (replicate n 0) (drop n work) n (length-replicate n 0));
+  later = λ y. rw (at-4 y) (drop-at (replicate n 0) (drop n work) n (length-replicate n 0));
+}
+  where
+    at-4 : k ≡ Refused 4 → work′ ≡ cleared n work
+    at-4 y = rw (sym z ∙ y) at f
+
+summary-number : (es : List ℕ) (k : Checked) → decided k (summaryOf es) emptySummary .refusal ≡ numberOf k
+unfolding summaryOf
+summary-number es (Refused number) = refl
+summary-number es Passed = refl
+
+module _ (c : Calls) (m : Meets c) where
+  pub demand-1 : Demand1 c
+  demand-1 = record {
+    test = λ w work work′ r h.
+        let f = m .test w work r work′ h in
+        let says = ap testChecked (f .answer) ∙ verdict-checked w (tried (extensionLines w (length work))) in
+        (answers _ _ says refl refl, untouched _ _ _ says (f .buffer));
+    pieceCut = λ w work ends work′ ends′ r h.
+        let f = m .pieceCut w work ends r work′ ends′ h in
+        let says = filled-says (f .filled) in
+        (answers _ _ says refl refl, untouched _ _ _ says (f .filled .result), untouched-but-4 _ _ _ says (f .worked));
+    strictCut = λ w ends ends′ r h.
+        let f = m .strictCut w ends r ends′ h in
+        (answers _ _ (filled-says f) refl refl, untouched _ _ _ (filled-says f) (f .result));
+    startTable = λ w out out′ r h.
+        let f = m .startTable w out r out′ h in
+        (answers _ _ (filled-says f) refl refl, untouched _ _ _ (filled-says f) (f .result));
+    comparison = λ w first end start other r h.
+        let result = Comparison.Sign (sign w first end start other) in
+        answers _ _
+        (ap signChecked (m .comparison w first end start other r h .answer)
+        ∙ said signChecked result (λ (i : ℕ). Comparison.Refused i) refl (λ number. refl) (tried (compareLines w first end start other)))
+        refl refl;
+    reader = λ w es k part number h. numbered-answers _ _ (m .reader w es k part number h .number-is) refl refl;
+    summary = λ w es r h.
+        numbered-answers _ _ (ap (λ s. s .refusal) (m .summary w es r h .answer) ∙ summary-number es (tried (summaryLines w es))) refl refl;
+  }
 
 -- ---- demand 2
 
-gave : {lines : List Line} {n : ℕ} {vs buffer buffer′ : List ℕ} {r : Counted} → everyNumber (ltb 0) lines ≡ true → n ≡ length vs
-    → Filled lines n vs buffer r buffer′ → countRefusal r ≡ 0 → Gave vs r buffer′
-gave {lines} {n} {vs} {buffer} p z f e =
-    let none : tried lines ≡ Passed = zero-passes lines p (sym (filled-refusal f) ∙ e) in
+gave : {lines : List Line} {n : ℕ} {vs buffer buffer′ : List ℕ} {r : Counted} → n ≡ length vs → Filled lines n vs buffer r buffer′ → countChecked r ≡ Passed
+    → Gave vs r buffer′
+gave {lines} {n} {vs} {buffer} z f e =
+    let none : tried lines ≡ Passed = sym (filled-says f) ∙ e in
     record {
       count = (rw none at (f .answer)) ∙ ap (λ (t : ℕ). Counted.Count t) z;
       entries = rw (rw none at (f .result)) (take-at vs (drop (length vs) buffer) (length vs) refl);
     }
 
-pub demand-2 : (w : List ℕ) → 1 ≤ length w → length w ≤ mostLetters → Demand2 w
-demand-2 w p q = record {
-  pieces = λ work ends work′ ends′ r f. gave refl refl (f .filled);
-  whole = icfl-whole w;
-  step = icfl-step w p;
-  strictPieces = λ ends ends′ r f. gave refl refl f;
-  factors = cfl-in-is w;
-  only = cfl-in-unique w;
-  table = λ out out′ r f. gave refl (sym (lyndon-table-length w)) f;
-  longest = λ i l. rw (lyndon-table-at w i l) (longest-is (drop i w) .word (longest-positive (drop i w) (rw length-drop (omega arith))));
-  noLonger = λ i n l a b. longest-is (drop i w) .longer n (rw (lyndon-table-at w i l) at a) (rw length-drop b);
-}
+-- a test that gave a result answers the verdict
+verdict-is : (w work work′ : List ℕ) (r : Extension) → ExtensionFound w work r work′ → testChecked r ≡ Passed → r ≡ extensionOf w
+verdict-is w work work′ r f e =
+    let lines = extensionLines w (length work) in
+    let none : tried lines ≡ Passed = sym (ap testChecked (f .answer) ∙ verdict-checked w (tried lines)) ∙ e in
+    rw none at (f .answer)
+
+verdict-fails : (w work work′ : List ℕ) (l p r : ℕ) → 0 < length w → ExtensionFound w work (Extension.Failing l p r) work′ → BoundedExtension w l p r
+verdict-fails w work work′ l p r s f =
+    let told = fails-told w l p r s (verdict-is w work work′ (Extension.Failing l p r) f refl) in
+    rw (told .failing, told .prefix, told .border) (extension-is w s (told .not))
+
+module _ (c : Calls) (m : Meets c) (w : List ℕ) (s : 1 ≤ length w) where
+  pub demand-2 : length w ≤ mostLetters → Demand2 c w
+  demand-2 q = record {
+    pieces = λ work ends work′ ends′ r h. gave refl (m .pieceCut w work ends r work′ ends′ h .filled);
+    whole = icfl-whole w;
+    step = icfl-step w s;
+    extension = extension-is w s;
+    falls = λ work work′ h.
+        holds-told w Extension.InverseLyndon (inl refl) (verdict-is w work work′ Extension.InverseLyndon (m .test w work Extension.InverseLyndon work′ h) refl);
+    fails = λ work work′ l p r h. verdict-fails w work work′ l p r s (m .test w work (Extension.Failing l p r) work′ h);
+    strictPieces = λ ends ends′ r h. gave refl (m .strictCut w ends r ends′ h);
+    factors = cfl-in-is w;
+    only = cfl-in-unique w;
+    table = λ out out′ r h. gave (sym (lyndon-table-length w)) (m .startTable w out r out′ h);
+    inside = λ i l. rw (lyndon-table-at w i l, ← length-drop i w) (longest-is (drop i w) .upto);
+    longest = λ i l. rw (lyndon-table-at w i l) (longest-is (drop i w) .word (longest-positive (drop i w) (rw length-drop (omega arith))));
+    noLonger = λ i n l a b. longest-is (drop i w) .longer n (rw (lyndon-table-at w i l) at a) (rw length-drop b);
+  }
 
 -- ---- demand 3
 
-front : {lines : List Line} {vs buffer buffer′ : List ℕ} {m : ℕ} → Filled lines (length vs) vs buffer (Counted.Count m) buffer′ → take m buffer′ ≡ vs
+-- the entries that a call wrote
+front : {lines : List Line} {vs buffer buffer′ : List ℕ} {n : ℕ} → Filled lines (length vs) vs buffer (Counted.Count n) buffer′ → take n buffer′ ≡ vs
 front {vs = vs} {buffer = buffer} f = let h = filled-counted f in rw (h .2, h .1) (take-at vs (drop (length vs) buffer) (length vs) refl)
 
-module _ (w es ss : List ℕ) (compare : ℕ → ℕ → ℕ → ℕ → Comparison) (r : Runs w es ss compare) where
+module _ (c : Calls) (m : Meets c) (w es ss : List ℕ) (compare : ℕ → ℕ → ℕ → ℕ → Comparison) (r : Runs c w es ss compare) where
   pieces-are : es ≡ icflEnds w
-  pieces-are = let q = r .pieceCut in q .6 ∙ front (q .5 .filled)
+  pieces-are = let q = r .pieceCut in q .6 ∙ front (m .pieceCut w _ _ _ _ _ (q .5) .filled)
 
   strict-are : ss ≡ cflInEnds w
-  strict-are = let q = r .strictCut in q .4 ∙ front (q .3)
+  strict-are = let q = r .strictCut in q .4 ∙ front (m .strictCut w _ _ _ (q .3))
 
   -- inside an accepted range the comparison answers the sign
   signs : (first end start other : ℕ) → end ≤ length w → first ≤ start → start < end → first ≤ other → other < end
       → compare first end start other ≡ Comparison.Sign (sign w first end start other)
-  signs first end start other l a b c d =
-      let within : Within w first end start other = record { short = r .short; inside = l; start-from = a; start-below = b; other-from = c; other-below = d } in
-      r .comparison first end start other .answer ∙ rw (within-passes w first end start other within)
+  signs first end start other l a b p d =
+      let within : Within w first end start other = record { short = r .short; inside = l; start-from = a; start-below = b; other-from = p; other-below = d } in
+      m .comparison w first end start other _ (r .comparison first end start other) .answer ∙ rw (within-passes w first end start other within)
 
-  module _ (first end start other : ℕ) (h : List·Memᴰ end es) (a : first ≤ start) (b : start < end) (c : first ≤ other) (d : other < end)
+  module _ (first end start other : ℕ) (g : WholePieces es first end) (a : first ≤ start) (b : start < end) (p : first ≤ other) (d : other < end)
       (n : ¬ (start ≡ other)) where
     inside : end ≤ length w
     unfolding icflEnds
-    inside = theory.icfl-inside w end (ends-boundary (icfl w) (rw pieces-are at h))
+    inside = theory.icfl-inside w end (ends-boundary (icfl w) (rw pieces-are at (g .1)))
 
     sign-decided : (compare first end start other ≡ Comparison.Sign (negsuc 0)) ⊎ (compare first end start other ≡ Comparison.Sign (pos 1))
-    sign-decided = go (sign-is w first end start other) (signs first end start other inside a b c d)
+    sign-decided = go (sign-is w first end start other) (signs first end start other inside a b p d)
       where
         go : {s : ℤ} → SignOf w first end start other s → compare first end start other ≡ Comparison.Sign s
             → (compare first end start other ≡ Comparison.Sign (negsuc 0)) ⊎ (compare first end start other ≡ Comparison.Sign (pos 1))
-        go (before m k) e = inl e
+        go (before x k) e = inl e
         go (equal z) e = absurd (n z)
-        go (after m k) e = inr e
+        go (after x k) e = inr e
 
-    same-sign : List·Memᴰ first (0 ∷ es) → compare first end start other ≡ compare 0 (length w) start other
-    same-sign g =
-        let t = theory.demand-3 w .compatible first end start other (rw pieces-are at g) (rw pieces-are at h) a b c d n in
-        signs first end start other inside a b c d
+    same-sign : compare first end start other ≡ compare 0 (length w) start other
+    same-sign =
+        let t = theory.demand-3 w .compatible first end start other (rw pieces-are at g) a b p d n in
+        signs first end start other inside a b p d
         ∙ (ap (λ (s : ℤ). Comparison.Sign s) t
         ∙ sym (signs 0 (length w) start other (omega arith) (omega arith) (omega (arith, inside)) (omega arith) (omega (arith, inside))))
 
   pub demand-3 : Demand3 w es ss compare
   demand-3 = record {
-    compatible = λ first end start other g h a b c d n. same-sign first end start other h a b c d n g;
-    decided = λ first end start other g h a b c d n. sign-decided first end start other h a b c d n;
+    compatible = same-sign;
+    decided = sign-decided;
     exceeds = rw pieces-are (theory.demand-3 w .exceeds);
     loses = rw pieces-are (theory.demand-3 w .loses);
     strict = rw (pieces-are, strict-are) (theory.demand-3 w .strict);
     nested = rw (pieces-are, strict-are) (theory.demand-3 w .nested);
   }
+
+-- ---- the library's calls, and the exported functions
+
+demands : (c : Calls) → Meets c → Total c → Demands c
+demands c m t = record {
+  first = demand-1 c m;
+  second = λ w s l. demand-2 c m w s l;
+  third = demand-3 c m;
+  given = λ w s l. runs-exist w s l c m t;
+}
+
+pub library-demands : Demands library
+library-demands = demands library library-meets library-total
+
+pub exported-demands : Demands exported
+exported-demands = demands exported exported-meets exported-total

@@ -25,6 +25,7 @@ use Rattle.extension.proofs.Extension.{the-type}
 
 pub record Fails (v : List ℕ) (l p r : ℕ) : Type 0 where
   pub not : ¬ InverseLyndon v
+  pub failing : l ≡ failingLength v
   pub prefix : p ≡ prefixLength v
   pub border : r ≡ borderLength v
   pub positive : 0 < p
@@ -45,6 +46,7 @@ fails-told v l p r s e = go (isInverseLyndon v) refl e
         let k : l ≡ failingLength v = cc in
         record {
           not = n;
+          failing = k;
           prefix = x;
           border = y;
           positive = omega (arith, prefix-positive v step);

@@ -3,13 +3,13 @@
 use mathlib.Core.Path.{_≡_, refl, ap}
 use mathlib.Core.Bool.{true}
 use mathlib.Core.List.{List, [], _∷_, flatten}
-use Prim.Native.Nat.{ℕ, _≤_, _<_}
+use Prim.Native.Nat.{ℕ, _≤_}
 use native.Mathlib.Omega.{arith}
 use lib.ListN.{length, getD}
 use lib.IntN.{ℤ, pos, negsuc}
 use Rattle.words.specs.Words.{_≪_, here, there, InverseLyndon, isInverseLyndon, sign}
 use Rattle.words.specs.Factorizations.{icfl, cflIn, endsFrom}
-use Rattle.words.specs.Statements.{Next, end, by, Linked, none, more, Compatible}
+use Rattle.words.specs.Statements.{end, by, Linked, none, more, Compatible}
 use Rattle.words.specs.Examples.{a, b, c, d}
 use Rattle.words.specs.orders.Decisions.{decides-true}
 use Rattle.words.specs.lyndon.WordTests.{inverse-lyndon-test}

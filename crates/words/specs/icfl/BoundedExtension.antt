@@ -5,7 +5,7 @@ use mathlib.Core.List.{List, [], _∷_, _++_}
 use Prim.Native.Nat.{ℕ, suc, _+_, _-_, _≤_, _<_}
 use native.Mathlib.Omega.{arith}
 use lib.ListN.{length, take, drop, getD, length-append, length-drop}
-use lib.Seq.{take-add, take-suc, take-at, drop-at, drop-cons, drop-drop, getD-drop, length-take-le}
+use lib.Seq.{take-add, take-suc, take-at, drop-at, drop-cons, length-take-le}
 use Rattle.words.specs.Words.{InverseLyndon}
 use Rattle.words.specs.Factorizations.{failingLength, borderLength, prefixLength}
 use Rattle.words.specs.Statements.{BorderedBy, bordered, BoundedExtension}

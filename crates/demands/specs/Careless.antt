@@ -1,0 +1,162 @@
+-- THEOREMS about paper 01's careless cutters, in its order: the demand that shuts each of them out. Each is the library but for its piece cut. And any-stretch:
+-- demand 3 would be false of stretches that are not whole pieces.
+use mathlib.Core.Path.{_≡_, refl, ap, sym, _∙_}
+use mathlib.Core.List.{List, [], _∷_, _++_}
+use Prim.Native.Nat.{ℕ, suc, _+_, _*_, _≤_, _<_}
+use native.Mathlib.Omega.{arith}
+use lib.ListN.{length, drop, getD, replicate, length-replicate}
+use lib.Seq.{take-at}
+use lib.IntN.{pos, negsuc}
+use borrow.Author.Tests.{ne-eqb, le-ltb}
+use Rattle.words.specs.Words.{mostLetters, _≪_, sign}
+use Rattle.words.specs.Words as words
+use Rattle.words.specs.orders.MismatchLaws.{≪-asym}
+use Rattle.words.specs.orders.LexLaws.{≤ₗ-not-≪, <ₗ-≤ₗ}
+use Rattle.words.specs.Factorizations.{icflEnds, prefixLength}
+use Rattle.words.specs.Statements.{here, there, Compatible}
+use Rattle.words.specs.Examples.{a, b, c}
+use Rattle.buffers.specs.Buffers.{cleared, written}
+use Rattle.checks.specs.Lines.{Line, tried, _unless_then_, resultLine}
+use Rattle.checks.specs.Answers.{Filled}
+use Rattle.checks.specs.declared.Checked.the-variants.{Passed, Refused}
+use Rattle.checks.specs.declared.Counted.{Counted}
+use Rattle.checks.proofs.LineLaws.{not-both, all-pass}
+use Rattle.icfl.specs.Icfl.{icflAdmission, workAfter}
+use Rattle.compare.specs.declared.suffixes.Comparison.{Comparison}
+use Rattle.demands.specs.Demands.{Calls, library, Demand1, Demand2, Demand3}
+use Rattle.demands.specs.Meets.{Meets}
+
+abbrev Cut : Type 1
+Cut = (w work ends : List ℕ) (r : Counted) (work′ ends′ : List ℕ) → Type 0
+
+-- the library with another piece cut
+abbrev cutter : Cut → Calls
+cutter cut = record {
+  Test = library .Test;
+  PieceCut = cut;
+  StrictCut = library .StrictCut;
+  StartTable = library .StartTable;
+  Comparing = library .Comparing;
+  Reading = library .Reading;
+  Summing = library .Summing;
+}
+
+-- ---- cutters that are right but for the ends, which are f w
+
+abbrev linesAt : (List ℕ → List ℕ) → List ℕ → ℕ → ℕ → List Line
+linesAt f w work entries = icflAdmission w work ++ resultLine entries (length (f w)) ∷ []
+
+pub record CutsAt (f : List ℕ → List ℕ) (w work ends : List ℕ) (r : Counted) (work′ ends′ : List ℕ) : Type 0 where
+  pub filled : Filled (linesAt f w (length work) (length ends)) (length (f w)) (f w) ends r ends′
+  pub worked : work′ ≡ cleared (3 * length w) work unless linesAt f w (length work) (length ends) then workAfter (3 * length w) work
+
+-- demand 2 shuts out every one whose ends are not the factorization's
+pub other-ends : (f : List ℕ → List ℕ) (w : List ℕ) → 1 ≤ length w → length w ≤ mostLetters → ¬ (f w ≡ icflEnds w) → ¬ Demand2 (cutter (CutsAt f)) w
+other-ends f w s l n d =
+    let work : List ℕ = replicate (3 * length w) 0 in
+    let ends : List ℕ = replicate (length (f w)) 0 in
+    let size-work : length work ≡ 3 * length w = length-replicate (3 * length w) 0 in
+    let size : length ends ≡ length (f w) = length-replicate (length (f w)) 0 in
+    let none : tried (linesAt f w (length work) (length ends)) ≡ Passed = all-pass (linesAt f w (length work) (length ends)) (
+      ne-eqb (length w) 0 (λ z. omega arith),
+      (
+        le-ltb mostLetters (length w) l,
+        (le-ltb (length work) (3 * length w) (omega (arith, size-work)), (le-ltb (length ends) (length (f w)) (omega (arith, size)), search)),
+      ),
+    ) in
+    let cut : CutsAt f w work ends (Counted.Count (length (f w))) (cleared (3 * length w) work) (written (f w) ends) =
+    record { filled = record { answer = rw none refl; result = rw none refl }; worked = rw none refl } in
+    let gave = d .pieces work ends _ _ _ cut refl in
+    let same : length (icflEnds w) ≡ length (f w) = sym cc in
+    n (sym (take-at (f w) (drop (length (f w)) ends) (length (f w)) refl) ∙ (rw same at (gave .entries)))
+
+-- 1. "A cutter that gives the whole record as one piece"
+pub whole-record : ¬ Demand2 (cutter (CutsAt (λ w. length w ∷ []))) (a ∷ b ∷ [])
+unfolding icflEnds
+whole-record = other-ends (λ w. length w ∷ []) (a ∷ b ∷ []) (omega arith) (omega arith)
+    (λ e. let z : _≡_ {A = ℕ} 2 1 = ap (λ (t : List ℕ). getD t 0 0) e in omega arith)
+
+-- 2. "or every byte": ends 1, 2, .. after i letters
+abbrev countUp : ℕ → List ℕ → List ℕ
+countUp i [] = []
+countUp i (x ∷ w) = suc i ∷ countUp (suc i) w
+
+pub every-byte : ¬ Demand2 (cutter (CutsAt (countUp 0))) (b ∷ a ∷ [])
+unfolding icflEnds
+every-byte = other-ends (countUp 0) (b ∷ a ∷ []) (omega arith) (omega arith)
+    (λ e. let z : _≡_ {A = ℕ} 1 2 = ap (λ (t : List ℕ). getD t 0 0) e in omega arith)
+
+-- 3. "One that finds the first p rightly and makes the rest one piece"
+pub first-p-only : ¬ Demand2 (cutter (CutsAt (λ w. prefixLength w ∷ length w ∷ []))) (a ∷ b ∷ c ∷ [])
+unfolding icflEnds prefixLength
+first-p-only = other-ends (λ w. prefixLength w ∷ length w ∷ []) (a ∷ b ∷ c ∷ []) (omega arith) (omega arith)
+    (λ e. let z : _≡_ {A = ℕ} 3 2 = ap (λ (t : List ℕ). getD t 1 0) e in omega arith)
+
+-- ---- other cutters, which leave the work buffer alone; only the answer and the ends are looked at
+
+abbrev Answering : ((w : List ℕ) (work entries : ℕ) → Counted) → (List ℕ → List ℕ → List ℕ) → Cut
+Answering answer after w work ends r work′ ends′ = (r ≡ answer w (length work) (length ends)) × (ends′ ≡ after w ends) × (work′ ≡ work)
+
+-- 4. "One that leaves the buffer alone and reports ends"
+pub buffer-left-alone : ¬ Demand2 (cutter (Answering (λ w work entries. Counted.Count (length (icflEnds w))) (λ w ends. ends))) (a ∷ [])
+unfolding icflEnds
+buffer-left-alone d =
+    let gave = d .pieces [] (0 ∷ []) [] (0 ∷ []) (Counted.Count 1) (refl, refl, refl) refl in
+    let z : _≡_ {A = ℕ} 0 1 = ap (λ (t : List ℕ). getD t 0 0) (gave .entries) in
+    omega arith
+
+-- 5. 'One that says "no space" before counting': 4 where the buffer has fewer entries than the record has letters
+pub no-space : ¬ Demand1 (cutter (Answering
+    (λ w work entries. Counted.Count (length (icflEnds w)) unless icflAdmission w work ++ resultLine entries (length w) ∷ [] then Counted.Refused)
+    (λ w ends. ends)))
+unfolding tried icflEnds
+no-space d = not-both refl (d .pieceCut (b ∷ a ∷ []) (replicate 6 0) (0 ∷ []) _ _ (Counted.Refused 4) (refl, refl, refl) .0 .first)
+
+-- 6. "or refuses all"
+pub refuses-all : ¬ Demand1 (cutter (Answering (λ w work entries. Counted.Refused 3) (λ w ends. ends)))
+unfolding tried icflEnds
+refuses-all d = not-both refl (d .pieceCut (a ∷ []) (replicate 3 0) (0 ∷ []) _ _ (Counted.Refused 3) (refl, refl, refl) .0 .first)
+
+-- 7. "One that invents the number of pieces"
+pub invented-count : ¬ Demand2 (cutter (Answering (λ w work entries. Counted.Count (length w + 1)) (λ w ends. written (icflEnds w) ends))) (a ∷ [])
+unfolding icflEnds
+invented-count d =
+    let gave = d .pieces [] (0 ∷ []) [] (1 ∷ []) (Counted.Count 2) (refl, refl, refl) refl in
+    let z : _≡_ {A = ℕ} 2 1 = cc in
+    omega arith
+
+-- and one whose refusal carries 0, so that it would pass for a result
+pub refused-by-0 : ¬ Demand1 (cutter (Answering (λ w work entries. Counted.Refused 0) (λ w ends. ends)))
+refused-by-0 d =
+    let z : 0 < 0 = d .pieceCut [] [] [] [] [] (Counted.Refused 0) (refl, refl, refl) .0 .positive 0 refl in
+    omega arith
+
+-- ---- demand 3 shuts out ends that are not the factorization's, too
+
+-- 1. again: the whole of `ab` does not exceed its ending `b`
+pub whole-not-exceeding : (compare : ℕ → ℕ → ℕ → ℕ → Comparison) → ¬ Demand3 (a ∷ b ∷ []) (2 ∷ []) (1 ∷ 2 ∷ []) compare
+whole-not-exceeding compare d =
+    ≤ₗ-not-≪ (<ₗ-≤ₗ (d .exceeds 0 2 here (a ∷ []) (b ∷ []) refl (omega arith) (omega arith))) (words.here {a = a} {b = b} (omega arith))
+
+-- "Giving the strict cut as the piece cut: F is one piece": `ba` does not lose to `ba`
+pub strict-not-losing : (compare : ℕ → ℕ → ℕ → ℕ → Comparison) → ¬ Demand3 (b ∷ a ∷ b ∷ a ∷ []) (2 ∷ 4 ∷ []) (2 ∷ 4 ∷ []) compare
+strict-not-losing compare d = let x : (b ∷ a ∷ []) ≪ (b ∷ a ∷ []) = d .loses 0 2 4 here (there here) in ≪-asym x x
+
+-- ---- "Trusting the comparison on a stretch that is not whole pieces."
+
+abbrev aboveZero : Comparison → ℕ
+aboveZero (Comparison.Sign (pos n)) = n
+aboveZero (Comparison.Sign (negsuc n)) = 0
+aboveZero (Comparison.Refused e) = 0
+
+-- demand 3's field, of every stretch in `bba`
+pub any-stretch : (calls : Calls) → Meets calls → (compare : ℕ → ℕ → ℕ → ℕ → Comparison)
+    → ((first end start other : ℕ) → calls .Comparing (b ∷ b ∷ a ∷ []) first end start other (compare first end start other))
+    → ¬ Compatible (λ first end. end ≤ 3) 3 compare
+unfolding tried sign
+any-stretch calls m compare h same =
+    let over-2 : compare 0 2 0 1 ≡ Comparison.Sign (pos 1) = m .comparison _ 0 2 0 1 _ (h 0 2 0 1) .answer in
+    let over-3 : compare 0 3 0 1 ≡ Comparison.Sign (negsuc 0) = m .comparison _ 0 3 0 1 _ (h 0 3 0 1) .answer in
+    let e : compare 0 2 0 1 ≡ compare 0 3 0 1 = same 0 2 0 1 (omega arith) (omega arith) (omega arith) (omega arith) (omega arith) (λ z. omega arith) in
+    let z : _≡_ {A = ℕ} 1 0 = ap aboveZero (sym over-2 ∙ (e ∙ over-3)) in
+    omega arith

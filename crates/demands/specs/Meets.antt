@@ -1,0 +1,151 @@
+-- Calls whose answers meet the promises of the library's calls (Meets), and that give one for all arguments (Total). The library's calls and the exported
+-- functions are such: library-meets, library-total, exported-meets, exported-total.
+use mathlib.Core.Path.{_≡_, refl, ap, _∙_}
+use mathlib.Core.Bool.{Bool, true, false}
+use mathlib.Core.List.{List, []}
+use Prim.Native.Nat.{ℕ, _<_}
+use native.Mathlib.Omega.{arith}
+use lib.ListN.{length, getD}
+use lib.Seq.{slice, slice-empty}
+use lib.IntN.{ℤ}
+use lib.Dec.{eqb, ltb}
+use borrow.Author.Tests.{ne-eqb}
+use Rattle.words.specs.Words.{InverseLyndon, isInverseLyndon, sign}
+use Rattle.words.specs.Factorizations.{failingLength, prefixLength, borderLength}
+use Rattle.words.specs.orders.Decisions.{decides-false}
+use Rattle.words.specs.lyndon.WordTests.{inverse-lyndon-test}
+use Rattle.words.specs.icfl.Failing.{failing-is}
+use Rattle.checks.specs.Lines.{Line, tried, decided}
+use Rattle.checks.specs.Answers.{numberOf, numbered, Filled}
+use Rattle.checks.specs.declared.Checked.{Checked}
+use Rattle.checks.specs.declared.Checked.the-variants.{Passed, Refused}
+use Rattle.checks.specs.declared.Counted.{Counted}
+use Rattle.checks.proofs.LineLaws.{everyNumber, numbered-is}
+use Rattle.checks.proofs.RecordLaws.{accepted}
+use Rattle.extension.specs.declared.Extension.{Extension}
+use Rattle.extension.specs.Extension.{verdictAs, extensionOf, extensionLines, ExtensionFound}
+use Rattle.icfl.specs.Icfl.{IcflDone}
+use Rattle.cfl.specs.CflIn.{CflInDone}
+use Rattle.table.specs.Table.{Tabled}
+use Rattle.compare.specs.declared.suffixes.Comparison.{Comparison}
+use Rattle.compare.specs.Compare.{compareLines, Compared}
+use Rattle.reading.specs.declared.summary.Summary.{Summary}
+use Rattle.reading.specs.Factor.{factorLines, factorFrom, FactorAt}
+use Rattle.reading.specs.Summary.{Summarized}
+use Rattle.exports.specs.Exports.{ifFailing, TestNumbers, FilledNumbers, SignNumber, FactorNumbers}
+use Rattle.demands.specs.Demands.{Calls, library, exported, verdictBy, countBy, signBy}
+
+pub record Meets (c : Calls) : Type 0 where
+  pub test : (w work : List ℕ) (r : Extension) (work′ : List ℕ) → c .Test w work r work′ → ExtensionFound w work r work′
+  pub pieceCut : (w work ends : List ℕ) (r : Counted) (work′ ends′ : List ℕ) → c .PieceCut w work ends r work′ ends′ → IcflDone w work ends r work′ ends′
+  pub strictCut : (w ends : List ℕ) (r : Counted) (ends′ : List ℕ) → c .StrictCut w ends r ends′ → CflInDone w ends r ends′
+  pub startTable : (w out : List ℕ) (r : Counted) (out′ : List ℕ) → c .StartTable w out r out′ → Tabled w out r out′
+  pub comparison : (w : List ℕ) (first end start other : ℕ) (r : Comparison) → c .Comparing w first end start other r → Compared w first end start other r
+  pub reader : (w es : List ℕ) (k : ℕ) (part : List ℕ) (number : ℕ) → c .Reading w es k part number → FactorAt w es k part number
+  pub summary : (w es : List ℕ) (r : Summary) → c .Summing w es r → Summarized w es r
+
+-- the three calls of demand 3 answer
+pub record Total (c : Calls) : Type 0 where
+  pub pieceCut : (w work ends : List ℕ) → (r : Counted) × (work′ ends′ : List ℕ) × c .PieceCut w work ends r work′ ends′
+  pub strictCut : (w ends : List ℕ) → (r : Counted) × (ends′ : List ℕ) × c .StrictCut w ends r ends′
+  pub comparison : (w : List ℕ) (first end start other : ℕ) → (r : Comparison) × c .Comparing w first end start other r
+
+-- ---- the library
+
+pub library-meets : Meets library
+library-meets = record {
+  test = λ w work r work′ h. h;
+  pieceCut = λ w work ends r work′ ends′ h. h;
+  strictCut = λ w ends r ends′ h. h;
+  startTable = λ w out r out′ h. h;
+  comparison = λ w first end start other r h. h;
+  reader = λ w es k part number h. h;
+  summary = λ w es r h. h;
+}
+
+pub library-total : Total library
+library-total = record {
+  pieceCut = λ w work ends. (_, _, _, record { filled = record { answer = refl; result = refl }; worked = refl });
+  strictCut = λ w ends. (_, _, record { answer = refl; result = refl });
+  comparison = λ w first end start other. (_, record { answer = refl });
+}
+
+-- ---- the exported functions: each number says as much as the answer's case, since no line has the number 0
+
+-- an answer read back from its numbers
+back : {A : Type 0} (lines : List Line) → everyNumber (ltb 0) lines ≡ true → (result other : A) (refusal : ℕ → A) {e : ℕ} → e ≡ numberOf (tried lines)
+    → (tried lines ≡ Passed → other ≡ result) → decided (numbered e) other refusal ≡ decided (tried lines) result refusal
+back {A} lines p result other refusal z h = rw (z, numbered-is lines p) (go (tried lines) h)
+  where
+    go : (k : Checked) → (k ≡ Passed → other ≡ result) → decided k other refusal ≡ decided k result refusal
+    go Passed h = h refl
+    go (Refused number) h = refl
+
+filled-by : (lines : List Line) → everyNumber (ltb 0) lines ≡ true → {n : ℕ} {vs buffer : List ℕ} {e count : ℕ} {buffer′ : List ℕ} {r : Counted}
+    → FilledNumbers lines n vs buffer e count buffer′ → r ≡ countBy e count → Filled lines n vs buffer r buffer′
+filled-by lines p {n} {count = count} f z = record {
+  answer = z ∙ back lines p (Counted.Count n) (Counted.Count count) (λ (i : ℕ). Counted.Refused i) (f .refusal)
+      (λ h. ap (λ (t : ℕ). Counted.Count t) (rw h at (f .count-is)));
+  result = f .result;
+}
+
+-- L tells the verdict: it is 0 for an inverse Lyndon word alone
+verdict-by : (w : List ℕ) (l p r : ℕ) → 0 < length w
+    → l ≡ ifFailing (failingLength w) (isInverseLyndon w) → p ≡ ifFailing (prefixLength w) (isInverseLyndon w)
+    → r ≡ ifFailing (borderLength w) (isInverseLyndon w)
+    → elim (eqb l 0) [ true ↦ Extension.InverseLyndon | false ↦ Extension.Failing l p r ] ≡ extensionOf w
+unfolding extensionOf
+verdict-by w l p r s x y z = go (isInverseLyndon w) refl x y z
+  where
+    go : (t : Bool) → isInverseLyndon w ≡ t → l ≡ ifFailing (failingLength w) t → p ≡ ifFailing (prefixLength w) t → r ≡ ifFailing (borderLength w) t
+        → elim (eqb l 0) [ true ↦ Extension.InverseLyndon | false ↦ Extension.Failing l p r ]
+        ≡ verdictAs t (failingLength w) (prefixLength w) (borderLength w)
+    go true d x y z = rw x refl
+    go false d x y z =
+        let positive : 0 < failingLength w = failing-is w s (decides-false (inverse-lyndon-test w) d) .positive in
+        let other : eqb l 0 ≡ false = ne-eqb l 0 (λ e. omega (arith, positive, x)) in
+        ap (λ (t : Bool). elim t [ true ↦ Extension.InverseLyndon | false ↦ Extension.Failing l p r ]) other ∙ rw (x, y, z) refl
+
+test-by : (w work : List ℕ) {e l p b : ℕ} {work′ : List ℕ} {r : Extension} → TestNumbers w work e l p b work′ → r ≡ verdictBy e l p b
+    → ExtensionFound w work r work′
+test-by w work {e} {l} {p} {b} f z =
+    let lines = extensionLines w (length work) in
+    record {
+      answer = z ∙ back lines refl (extensionOf w) _ (λ (i : ℕ). Extension.Refused i) (f .refusal)
+          (λ h. verdict-by w l p b (accepted w _ h .nonempty) (rw h at (f .failing-is)) (rw h at (f .prefix-is)) (rw h at (f .border-is)));
+      buffer = f .buffer;
+    }
+
+sign-by : (w : List ℕ) (first end start other : ℕ) {e : ℕ} {s : ℤ} {r : Comparison} → SignNumber w first end start other e s → r ≡ signBy e s
+    → Compared w first end start other r
+sign-by w first end start other {e} {s} f z = record {
+  answer = z ∙ back (compareLines w first end start other) refl (Comparison.Sign (sign w first end start other)) (Comparison.Sign s)
+      (λ (i : ℕ). Comparison.Refused i) (f .refusal) (λ h. ap (λ (t : ℤ). Comparison.Sign t) (rw h at (f .sign-is)));
+}
+
+-- from 0 to 0, the part beside a refusal is empty
+part-by : (w es : List ℕ) (k : ℕ) {e i j : ℕ} {part : List ℕ} → FactorNumbers w es k e i j → part ≡ slice i j w → FactorAt w es k part e
+part-by w es k {i = i} {j = j} {part} f z = record { number-is = f .refusal; part-is = go (tried (factorLines w es k)) (f .first-is) (f .end-is) }
+  where
+    go : (q : Checked) → i ≡ decided q (factorFrom es k) (λ number. 0) → j ≡ decided q (getD es k 0) (λ number. 0)
+        → part ≡ decided q (slice (factorFrom es k) (getD es k 0) w) (λ number. [])
+    go Passed x y = rw (x, y) at z
+    go (Refused number) x y = (rw (x, y) at z) ∙ slice-empty 0 w
+
+pub exported-meets : Meets exported
+exported-meets = record {
+  test = λ w work r work′ h. test-by w work (h .5) (h .4);
+  pieceCut = λ w work ends r work′ ends′ h. record { filled = filled-by _ refl (h .3 .filled) (h .2); worked = h .3 .worked };
+  strictCut = λ w ends r ends′ h. filled-by _ refl (h .3) (h .2);
+  startTable = λ w out r out′ h. filled-by _ refl (h .3) (h .2);
+  comparison = λ w first end start other r h. sign-by w first end start other (h .3) (h .2);
+  reader = λ w es k part number h. part-by w es k (h .3) (h .2);
+  summary = λ w es r h. h;
+}
+
+pub exported-total : Total exported
+exported-total = record {
+  pieceCut = λ w work ends. (_, _, _, (_, _, refl, record { filled = record { refusal = refl; count-is = refl; result = refl }; worked = refl }));
+  strictCut = λ w ends. (_, _, (_, _, refl, record { refusal = refl; count-is = refl; result = refl }));
+  comparison = λ w first end start other. (_, (_, _, refl, record { refusal = refl; sign-is = refl }));
+}
