@@ -15,8 +15,8 @@ pub enum Checked {
 }
 
 impl Checked {
-    /// A line of the table: its number where its condition is met.
-    pub fn when(number: u8, met: bool) -> Checked
+    // A line of the table: its number where its condition is met.
+    fn when(number: u8, met: bool) -> Checked
         ensures { λ r. ⌜ r ≡ tried (number when met ∷ []) ⌝ }
     {
         if met {
