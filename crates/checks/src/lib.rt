@@ -15,8 +15,8 @@ pub enum Checked {
 }
 
 impl Checked {
-    /// A line of the table: its number where its condition is met.
-    pub fn when(number: u8, met: bool) -> Checked
+    // A line of the table: its number where its condition is met.
+    fn when(number: u8, met: bool) -> Checked
         ensures { λ r. ⌜ r ≡ tried (number when met ∷ []) ⌝ }
     {
         if met {
@@ -74,11 +74,11 @@ pub fn check_result(entries: usize, needed: usize) -> Checked
     Checked::when(4, entries < needed)
 }
 
-/// Line 5: the range from `first` to `end` of a record of `length` letters.
-pub fn check_range(length: usize, first: usize, end: usize) -> Checked
-    ensures { λ r. ⌜ r ≡ tried (rangeLine length first end ∷ []) ⌝ }
+/// Line 5: the range from `first` to `end` of a record of so many letters.
+pub fn check_range(letters: usize, first: usize, end: usize) -> Checked
+    ensures { λ r. ⌜ r ≡ tried (rangeLine letters first end ∷ []) ⌝ }
 {
-    Checked::when(5, (end <= first) | (length < end))
+    Checked::when(5, (end <= first) | (letters < end))
 }
 
 /// Line 6: a start of the range from `first` to `end`.
@@ -88,9 +88,9 @@ pub fn check_start(first: usize, end: usize, start: usize) -> Checked
     Checked::when(6, (start < first) | (end <= start))
 }
 
-// Whether a list of ends is empty, does not rise strictly from above 0, or does not end at `length`.
-fn faulty_ends(ends: &[u16], length: usize) -> bool
-    ensures { λ r. ⌜ r ≡ faultyEnds (now (ends .entry)) length ⌝ }
+// Whether a list of ends is empty, does not rise strictly from above 0, or does not end at the record's length.
+fn faulty_ends(ends: &[u16], letters: usize) -> bool
+    ensures { λ r. ⌜ r ≡ faultyEnds (now (ends .entry)) letters ⌝ }
 {
     if ends.len() == 0 {
         return true;
@@ -105,14 +105,14 @@ fn faulty_ends(ends: &[u16], length: usize) -> bool
         last = end;
         i += 1;
     }
-    last as usize != length
+    last as usize != letters
 }
 
-/// Line 7: a list of ends for a record of `length` letters.
-pub fn check_ends(ends: &[u16], length: usize) -> Checked
-    ensures { λ r. ⌜ r ≡ tried (endsLine (now (ends .entry)) length ∷ []) ⌝ }
+/// Line 7: a list of ends for a record of so many letters.
+pub fn check_ends(ends: &[u16], letters: usize) -> Checked
+    ensures { λ r. ⌜ r ≡ tried (endsLine (now (ends .entry)) letters ∷ []) ⌝ }
 {
-    Checked::when(7, faulty_ends(ends, length))
+    Checked::when(7, faulty_ends(ends, letters))
 }
 
 /// Line 8: a part's number against the number of ends.

@@ -70,30 +70,27 @@ pub extern "C" fn metsroeb_icfl(
 ) -> u8
     ensures { λ r. ⌜ IcflNumbers (now (word .entry)) (now (work .entry)) (now (ends .entry)) r (now (count .exit)) (now (work .exit)) (now (ends .exit)) ⌝ }
 {
-    let answer = icfl::icfl(word, work, ends);
-    let numbers = numbers_of(answer);
-    *count = numbers.count;
-    numbers.refusal
+    let pieces = numbers_of(icfl::icfl(word, work, ends));
+    *count = pieces.count;
+    pieces.refusal
 }
 
 #[no_mangle]
 pub extern "C" fn metsroeb_cfl_in(word: &[u8], ends: &mut [u16], count: &mut u16) -> u8
     ensures { λ r. ⌜ CflInNumbers (now (word .entry)) (now (ends .entry)) r (now (count .exit)) (now (ends .exit)) ⌝ }
 {
-    let answer = cfl::cfl_in(word, ends);
-    let numbers = numbers_of(answer);
-    *count = numbers.count;
-    numbers.refusal
+    let strict = numbers_of(cfl::cfl_in(word, ends));
+    *count = strict.count;
+    strict.refusal
 }
 
 #[no_mangle]
 pub extern "C" fn metsroeb_lyndon_table(word: &[u8], lengths: &mut [u16], count: &mut u16) -> u8
     ensures { λ r. ⌜ TableNumbers (now (word .entry)) (now (lengths .entry)) r (now (count .exit)) (now (lengths .exit)) ⌝ }
 {
-    let answer = table::lyndon_table(word, lengths);
-    let numbers = numbers_of(answer);
-    *count = numbers.count;
-    numbers.refusal
+    let starts = numbers_of(table::lyndon_table(word, lengths));
+    *count = starts.count;
+    starts.refusal
 }
 
 #[no_mangle]

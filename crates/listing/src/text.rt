@@ -87,17 +87,17 @@ fn write_number_line(key: &[u8], number: u16, out: &mut [u8], at: usize) -> usiz
 
 // The seven lines of a record that was accepted.
 pub fn write_lines(
-    length: u16,
+    letters: u16,
     ends: &[u16],
     strict: &[u16],
     summary: Summary,
     out: &mut [u8],
 ) -> usize
-    requires { ⌜ Printable length (now ends) (now strict) summary (now out) ⌝ }
-    ensures { λ r. ⌜ WroteAt 0 (sevenLines length (now (ends .entry)) (now (strict .entry)) summary) (now (out .entry)) r (now (out .exit)) ⌝ }
+    requires { ⌜ Printable letters (now ends) (now strict) summary (now out) ⌝ }
+    ensures { λ r. ⌜ WroteAt 0 (sevenLines letters (now (ends .entry)) (now (strict .entry)) summary) (now (out .entry)) r (now (out .exit)) ⌝ }
 {
     let bands = summary.bands;
-    let pieces_at = write_number_line(b"length", length, out, 0);
+    let pieces_at = write_number_line(b"length", letters, out, 0);
     let ends_at = write_number_line(b"pieces", summary.count, out, pieces_at);
     let strict_at = write_list_line(b"ends", ends, out, ends_at);
     let longest_at = write_list_line(b"strict", strict, out, strict_at);

@@ -2,16 +2,16 @@
 use borrow.Author.Needs.{needs}
 use Prim.Native.Nat.{_-_, _<_}
 use native.Mathlib.Omega.{arith}
-use lib.ListN.{length as size}
+use lib.ListN.{length}
 use Rattle.checks.proofs.EndsLaws.{Rising, rising-starts, rising-on, rising-fails, rising-ends, empty-faulty}
 use Rattle.checks.proofs.faulty_ends.Statement.{statement}
 use Rattle.checks.proofs.faulty_ends.Tie as tie
 
 abbrev Inv-loop : tie.InvT-loop
-Inv-loop ends length last₀ i₀ last i = Rising length ends last i × (last < 65536)
+Inv-loop ends letters last₀ i₀ last i = Rising letters ends last i × (last < 65536)
 
 abbrev μ-loop : tie.MeasureT-loop
-μ-loop ends length last₀ i₀ last i = size ends - i
+μ-loop ends letters last₀ i₀ last i = length ends - i
 
 returns : tie.Need-returns Inv-loop μ-loop
 returns c = empty-faulty _ _ (c .if1 .taken)

@@ -18,13 +18,13 @@ enum-known-found : tie.Need-enum-known-found
 enum-known-found c = search needs
 
 cast-failing : tie.Need-cast-failing
-cast-failing c = omega (arith, bounded-at c .failing)
+cast-failing c = omega (arith, bounded-at c)
 
 cast-prefix : tie.Need-cast-prefix
-cast-prefix c = omega (arith, bounded-at c .prefix)
+cast-prefix c = omega (arith, bounded-at c)
 
 cast-border : tie.Need-cast-border
-cast-border c = omega (arith, bounded-at c .border)
+cast-border c = omega (arith, bounded-at c)
 
 enum-known-found-2 : tie.Need-enum-known-found-2
 enum-known-found-2 c = search needs

@@ -21,7 +21,7 @@ start c = first c .before .before .before .before .before .before .before
 -- after five lines, the others have room
 room-at : (c : tie.After-write-number-line3)
     → (let a = start c .args in
-    let to-come = drop 5 (linesOf (a .length) (a .ends .now) (a .strict .now) (a .summary)) in
+    let to-come = drop 5 (linesOf (a .letters) (a .ends .now) (a .strict .now) (a .summary)) in
     c .write-number-line3 .result + total to-come ≤ length (c .write-number-line3 .last .1 .1 .0))
 room-at c = omega (arith, start c .pre .room)
 
