@@ -104,12 +104,24 @@ fn the_longest_record_and_one_byte_more() {
     }
 }
 
-/// Every line of the table prints a condition of its own.
+/// Every line of the table has its number, and prints a condition of its own.
 #[test]
 fn refusals_print_their_conditions() {
-    let printed: Vec<String> = (1..=8).map(|number| Refusal::check(number).unwrap_err().to_string()).collect();
-    for (k, line) in printed.iter().enumerate() {
-        assert!(line.starts_with(&format!("refusal {}: ", k + 1)) && !line.contains("no line of the table"), "{line}");
-        assert!(!printed[..k].contains(line));
+    let lines = [
+        Refusal::EMPTY_RECORD,
+        Refusal::LONG_RECORD,
+        Refusal::SHORT_WORK,
+        Refusal::SHORT_RESULT,
+        Refusal::BAD_RANGE,
+        Refusal::BAD_START,
+        Refusal::BAD_ENDS,
+        Refusal::BAD_NUMBER,
+    ];
+    let unknown = Refusal::check(255).unwrap_err().condition();
+    for (k, line) in lines.into_iter().enumerate() {
+        let number = k as u8 + 1;
+        assert_eq!(Refusal::check(number), Err(line));
+        assert_eq!(line.to_string(), format!("refusal {number}: {}", line.condition()));
+        assert!(line.condition() != unknown && lines[..k].iter().all(|other| line.condition() != other.condition()));
     }
 }
