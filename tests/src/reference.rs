@@ -1,13 +1,6 @@
 //! The answers, by paper 01's definitions and nothing else: for short words.
+use metsroeb::{Extension, Summary};
 use std::cmp::Ordering;
-
-/// The test's answer for a word that is not inverse Lyndon: L, |p| and |r|.
-#[derive(Clone, Copy, Debug, PartialEq, Eq)]
-pub struct Extension {
-    pub failing: usize,
-    pub prefix: usize,
-    pub border: usize,
-}
 
 /// The inverse order: a proper prefix comes first, and at a first difference the larger byte.
 pub fn inverse_order(x: &[u8], y: &[u8]) -> Ordering {
@@ -34,23 +27,23 @@ pub fn is_anti_lyndon(word: &[u8]) -> bool {
 }
 
 /// L is the shortest nonempty prefix that is not inverse Lyndon; it is r a u r b with a < b and the shortest r.
-pub fn test(word: &[u8]) -> Option<Extension> {
-    let failing = (1..=word.len()).find(|&l| !is_inverse_lyndon(&word[..l]))?;
+pub fn find_extension(word: &[u8]) -> Extension {
+    let Some(failing) = (1..=word.len()).find(|&l| !is_inverse_lyndon(&word[..l])) else { return Extension::InverseLyndon };
     let last = failing - 1;
     let border = (0..failing)
         .find(|&r| 2 * r + 2 <= failing && word[..r] == word[last - r..last] && word[r] < word[last])
         .expect("a failing prefix is r a u r b");
-    Some(Extension { failing, prefix: last - border, border })
+    Extension::Failing { failing, prefix: last - border, border }
 }
 
 /// The piece cut, by its recursion: the lengths of the pieces.
 fn pieces(word: &[u8]) -> Vec<usize> {
-    let Some(found) = test(word) else { return vec![word.len()] };
-    let mut rest = pieces(&word[found.prefix..]);
-    if rest[0] <= found.border {
-        rest[0] += found.prefix;
+    let Extension::Failing { prefix, border, .. } = find_extension(word) else { return vec![word.len()] };
+    let mut rest = pieces(&word[prefix..]);
+    if rest[0] <= border {
+        rest[0] += prefix;
     } else {
-        rest.insert(0, found.prefix);
+        rest.insert(0, prefix);
     }
     rest
 }
@@ -94,26 +87,17 @@ pub fn lyndon_table(word: &[u8]) -> Vec<u16> {
     (0..word.len()).map(|i| longest_anti_lyndon(&word[i..]) as u16).collect()
 }
 
-/// The comparison of the starts over the range that ends at `end`.
-pub fn sign(word: &[u8], end: usize, start: usize, other: usize) -> i8 {
-    match inverse_order(&word[start..end], &word[other..end]) {
-        Ordering::Less => -1,
-        Ordering::Equal => 0,
-        Ordering::Greater => 1,
-    }
-}
-
 /// First place and end of each factor that a list of ends marks.
 pub fn factors(ends: &[u16]) -> Vec<(u16, u16)> {
     (0..ends.len()).map(|k| (if k == 0 { 0 } else { ends[k - 1] }, ends[k])).collect()
 }
 
-/// The summary's numbers: count, longest, from, bands.
-pub fn summary(ends: &[u16]) -> (u16, u16, u16, [u16; 13]) {
+/// The summary of the factors that a list of ends marks.
+pub fn summary(ends: &[u16]) -> Summary {
     let factors = factors(ends);
     let longest = factors.iter().map(|(from, end)| end - from).max().unwrap_or(0);
     let from = factors.iter().find(|(from, end)| end - from == longest).map_or(0, |f| f.0);
     let digits = |(from, end): &(u16, u16)| format!("{:b}", end - from).len();
     let bands = std::array::from_fn(|band| factors.iter().filter(|f| digits(f) == band + 1).count() as u16);
-    (factors.len() as u16, longest, from, bands)
+    Summary { count: factors.len() as u16, longest, from, bands }
 }

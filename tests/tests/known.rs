@@ -1,7 +1,9 @@
-//! Paper 01's records with known ends, through every implementation.
-use metsroeb_tests::reference;
-use metsroeb_tests::{Calls, PEER, VERIFIED};
+//! Paper 01's records with known ends, and what else it says of records by name, through every implementation.
+use metsroeb::{Extension, Refusal, Summary, MOST};
+use metsroeb_tests::{reference, Calls, PEER, VERIFIED};
+use std::cmp::Ordering;
 
+/// A to K: the record, its piece ends, its strict ends.
 const RECORDS: [(&str, &[u16], &[u16]); 11] = [
     ("a", &[1], &[1]),
     ("aaa", &[3], &[1, 2, 3]),
@@ -15,30 +17,10 @@ const RECORDS: [(&str, &[u16], &[u16]); 11] = [
     ("dabadabdabdadac", &[4, 10, 15], &[4, 7, 10, 15]),
     ("dabdadacddbdc", &[3, 8, 13], &[3, 8, 13]),
 ];
+const H: &[u8] = b"cbabacbac";
+const I: &[u8] = b"cbabacaacbabacbac";
 
-fn icfl(calls: &Calls, word: &[u8]) -> Vec<u16> {
-    let (mut work, mut ends, mut count) = (vec![0; 3 * word.len()], vec![0; word.len()], 0);
-    assert_eq!(calls.icfl(word, &mut work, &mut ends, &mut count), 0);
-    ends[..count as usize].to_vec()
-}
-
-fn cfl_in(calls: &Calls, word: &[u8]) -> Vec<u16> {
-    let (mut ends, mut count) = (vec![0; word.len()], 0);
-    assert_eq!(calls.cfl_in(word, &mut ends, &mut count), 0);
-    ends[..count as usize].to_vec()
-}
-
-fn test(calls: &Calls, word: &[u8]) -> [u16; 3] {
-    let (mut work, mut failing, mut prefix, mut border) = (vec![0; word.len()], 0, 0, 0);
-    assert_eq!(calls.test(word, &mut work, &mut failing, &mut prefix, &mut border), 0);
-    [failing, prefix, border]
-}
-
-fn sign(calls: &Calls, word: &[u8], first: usize, end: usize, start: usize, other: usize) -> i8 {
-    let mut sign = 77;
-    assert_eq!(calls.compare(word, first, end, start, other, &mut sign), 0);
-    sign
-}
+const BOTH: [&Calls; 2] = [&VERIFIED, &PEER];
 
 #[test]
 fn records_a_to_k() {
@@ -46,29 +28,100 @@ fn records_a_to_k() {
         let word = word.as_bytes();
         assert_eq!(reference::icfl(word), pieces);
         assert_eq!(reference::cfl_in(word), strict);
-        for calls in [&VERIFIED, &PEER] {
-            assert_eq!(icfl(calls, word), pieces);
-            assert_eq!(cfl_in(calls, word), strict);
+        for calls in BOTH {
+            let (mut work, mut ends) = (vec![0; 3 * word.len()], vec![0; word.len()]);
+            assert_eq!((calls.icfl)(word, &mut work, &mut ends), Ok(pieces));
+            assert_eq!((calls.cfl_in)(word, &mut ends), Ok(strict));
         }
     }
 }
 
 #[test]
-fn what_the_paper_says_of_h_i_and_bba() {
-    let (h, i) = (b"cbabacbac", b"cbabacaacbabacbac");
-    for calls in [&VERIFIED, &PEER] {
-        assert_eq!(test(calls, h), [9, 5, 3]);
-        assert_eq!(test(calls, i), [15, 8, 6]);
-        assert_eq!(test(calls, b"baba"), [0, 0, 0]);
-        let (mut table, mut count) = ([0; 9], 0);
-        assert_eq!(calls.lyndon_table(h, &mut table, &mut count), 0);
-        assert_eq!((count, table), (9, [5, 2, 1, 2, 1, 3, 2, 1, 1]));
-        assert_eq!(sign(calls, h, 0, 9, 0, 5), 1);
-        assert_eq!(sign(calls, h, 5, 9, 5, 8), 1);
-        assert_eq!(sign(calls, b"bba", 0, 2, 0, 1), 1);
-        assert_eq!(sign(calls, b"bba", 0, 3, 0, 1), -1);
-        let summary = calls.summarize(h, &[5, 9]);
-        assert_eq!((summary.count, summary.longest, summary.from), (2, 5, 0));
-        assert_eq!(summary.bands, [0, 0, 2, 0, 0, 0, 0, 0, 0, 0, 0, 0, 0]);
+fn extensions_of_h_and_i() {
+    for calls in BOTH {
+        let found = |word| (calls.find_extension)(word, &mut [0; 17]);
+        assert_eq!(found(H), Ok(Extension::Failing { failing: 9, prefix: 5, border: 3 }));
+        assert_eq!(found(I), Ok(Extension::Failing { failing: 15, prefix: 8, border: 6 }));
+        assert_eq!(found(b"baba"), Ok(Extension::InverseLyndon));
+    }
+}
+
+#[test]
+fn start_table_and_summary_of_h() {
+    for calls in BOTH {
+        assert_eq!((calls.lyndon_table)(H, &mut [0; 9]), Ok(&[5, 2, 1, 2, 1, 3, 2, 1, 1][..]));
+        let summary = Summary { count: 2, longest: 5, from: 0, bands: [0, 0, 2, 0, 0, 0, 0, 0, 0, 0, 0, 0, 0] };
+        assert_eq!((calls.summarize)(H, &[5, 9]), Ok(summary));
+        assert_eq!((calls.factor_at)(H, &[5, 9], 1), Ok(&b"cbac"[..]));
+    }
+}
+
+#[test]
+fn comparisons_in_h_and_bba() {
+    for calls in BOTH {
+        assert_eq!((calls.compare_suffixes)(H, 0, 9, 0, 5), Ok(Ordering::Greater));
+        assert_eq!((calls.compare_suffixes)(H, 5, 9, 5, 8), Ok(Ordering::Greater));
+        assert_eq!((calls.compare_suffixes)(b"bba", 0, 2, 0, 1), Ok(Ordering::Greater));
+        assert_eq!((calls.compare_suffixes)(b"bba", 0, 3, 0, 1), Ok(Ordering::Less));
+    }
+}
+
+/// "H with a result buffer of 2 entries is cut; with 1 it gets 4."
+#[test]
+fn h_with_two_entries_and_with_one() {
+    for calls in BOTH {
+        assert_eq!((calls.icfl)(H, &mut [0; 27], &mut [0; 2]), Ok(&[5, 9][..]));
+        let (mut work, mut ends) = ([7; 28], [7; 1]);
+        assert_eq!((calls.icfl)(H, &mut work, &mut ends), Err(Refusal::SHORT_RESULT));
+        assert_eq!(Refusal::SHORT_RESULT.number(), 4);
+        assert_eq!((&work[..27], work[27], ends[0]), (&[0; 27][..], 7, 7));
+    }
+}
+
+/// "Length 4,096 is accepted and 4,097 gets 2", by every call.
+#[test]
+fn the_longest_record_and_one_byte_more() {
+    fn refusals(calls: &Calls, word: &[u8]) -> [Option<u8>; 7] {
+        let n = word.len();
+        let (mut work, mut result) = (vec![0; 3 * n], vec![0; n]);
+        [
+            (calls.find_extension)(word, &mut work).err(),
+            (calls.icfl)(word, &mut work, &mut result).err(),
+            (calls.cfl_in)(word, &mut result).err(),
+            (calls.lyndon_table)(word, &mut result).err(),
+            (calls.compare_suffixes)(word, 0, n, 0, n - 1).err(),
+            (calls.factor_at)(word, &[n as u16], 0).err(),
+            (calls.summarize)(word, &[n as u16]).err(),
+        ]
+        .map(|refused| refused.map(Refusal::number))
+    }
+    assert_eq!(MOST, 4096);
+    for calls in BOTH {
+        for letter in [0, b'a', 255] {
+            assert_eq!(refusals(calls, &vec![letter; 4096]), [None; 7]);
+            assert_eq!(refusals(calls, &vec![letter; 4097]), [Some(2); 7]);
+        }
+    }
+}
+
+/// Every line of the table has its number, and prints a condition of its own.
+#[test]
+fn refusals_print_their_conditions() {
+    let lines = [
+        Refusal::EMPTY_RECORD,
+        Refusal::LONG_RECORD,
+        Refusal::SHORT_WORK,
+        Refusal::SHORT_RESULT,
+        Refusal::BAD_RANGE,
+        Refusal::BAD_START,
+        Refusal::BAD_ENDS,
+        Refusal::BAD_NUMBER,
+    ];
+    let unknown = Refusal::check(255).unwrap_err().condition();
+    for (k, line) in lines.into_iter().enumerate() {
+        let number = k as u8 + 1;
+        assert_eq!(Refusal::check(number), Err(line));
+        assert_eq!(line.to_string(), format!("refusal {number}: {}", line.condition()));
+        assert!(line.condition() != unknown && lines[..k].iter().all(|other| line.condition() != other.condition()));
     }
 }

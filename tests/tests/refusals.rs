@@ -32,7 +32,7 @@ fn records_and_buffers() {
         let n = word.len().min(4098);
         for calls in [&VERIFIED, &PEER] {
             for work_len in sizes(&[n, 3 * n]) {
-                agree::test(calls, &word, &answers, work_len, &mut random);
+                agree::find_extension(calls, &word, &answers, work_len, &mut random);
                 for ends_len in sizes(&[answers.icfl.len(), n]) {
                     agree::icfl(calls, &word, &answers, work_len, ends_len, &mut random);
                 }
@@ -58,7 +58,7 @@ fn ranges_and_starts() {
                 for &start in &places {
                     for &other in &places {
                         for calls in [&VERIFIED, &PEER] {
-                            agree::compare(calls, word.as_bytes(), [first, end], [start, other], &mut random);
+                            agree::compare_suffixes(calls, word.as_bytes(), [first, end], [start, other], &mut random);
                         }
                     }
                 }
@@ -69,7 +69,7 @@ fn ranges_and_starts() {
         let n = word.len();
         for range in [[0, n], [0, n + 1], [0, 0], [n, n], [n / 2, n], [0, n / 2], [n, 0]] {
             for starts in [[0, 0], [0, n / 2], [n / 2, 0], [0, n], [n, 0], [n.saturating_sub(1); 2]] {
-                agree::compare(&VERIFIED, &word, range, starts, &mut random);
+                agree::compare_suffixes(&VERIFIED, &word, range, starts, &mut random);
             }
         }
     }
@@ -84,10 +84,10 @@ fn short_lists() {
         for list in (0..=5).flat_map(|count| all_words(6, count)) {
             let list: Vec<u16> = list.iter().map(|&letter| (letter - b'a') as u16).collect();
             for number in [0, 1, list.len().saturating_sub(1), list.len(), usize::MAX] {
-                agree::factor(&VERIFIED, &word, &list, number, &mut random);
+                agree::factor_at(&VERIFIED, &word, &list, number, &mut random);
             }
             agree::summarize(&VERIFIED, &word, &list, &mut random);
-            agree::factor(&PEER, &word, &list, 0, &mut random);
+            agree::factor_at(&PEER, &word, &list, 0, &mut random);
             agree::summarize(&PEER, &word, &list, &mut random);
         }
     }
@@ -113,7 +113,7 @@ fn long_lists() {
         }
         for list in lists {
             for number in [0, list.len() / 2, list.len().saturating_sub(1), list.len(), usize::MAX] {
-                agree::factor(&VERIFIED, &word, &list, number, &mut random);
+                agree::factor_at(&VERIFIED, &word, &list, number, &mut random);
             }
             agree::summarize(&VERIFIED, &word, &list, &mut random);
         }

@@ -22,7 +22,7 @@ fn all_calls(calls: &Calls) {
     for word in short_words() {
         let (n, answers) = (word.len(), Answers::by_definition(&word));
         for work_len in [n - 1, n, n + 1] {
-            agree::test(calls, &word, &answers, work_len, &mut random);
+            agree::find_extension(calls, &word, &answers, work_len, &mut random);
         }
         for ends_len in 0..=n + 1 {
             for work_len in [3 * n - 1, 3 * n, 3 * n + 1] {
@@ -56,8 +56,8 @@ fn comparison() {
             for end in first + 1..=n {
                 for start in first..end {
                     for other in first..end {
-                        agree::compare(&VERIFIED, &word, [first, end], [start, other], &mut random);
-                        agree::compare(&PEER, &word, [first, end], [start, other], &mut random);
+                        agree::compare_suffixes(&VERIFIED, &word, [first, end], [start, other], &mut random);
+                        agree::compare_suffixes(&PEER, &word, [first, end], [start, other], &mut random);
                     }
                 }
             }
@@ -75,7 +75,7 @@ fn reader_and_summary() {
             for calls in [&VERIFIED, &PEER] {
                 agree::summarize(calls, &word, &list, &mut random);
                 for number in 0..=list.len() {
-                    agree::factor(calls, &word, &list, number, &mut random);
+                    agree::factor_at(calls, &word, &list, number, &mut random);
                 }
             }
         }

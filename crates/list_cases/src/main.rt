@@ -1,4 +1,5 @@
-//! The list program on further inputs: each file that an argument names, one listing after the other.
+//! The list program on further inputs: each file that an argument names, one listing after the other. A folder can be opened and not read; what the
+//! program says then goes to standard output here, among the listings.
 use libc::STDOUT_FILENO;
 
 fn list_file(argument: usize) {
@@ -9,7 +10,7 @@ fn list_file(argument: usize) {
         os::fail(&path[..length]);
         return;
     }
-    lister::list(file, STDOUT_FILENO);
+    lister::list(file, STDOUT_FILENO, STDOUT_FILENO);
     libc::close(file);
 }
 

@@ -1,5 +1,5 @@
 -- Nothing has to hold from turn to turn; the turns that are left fall.
-use native.Mathlib.Omega.{arith}
+use borrow.Author.Needs.{needs}
 use Rattle.lister.proofs.skip_rest.Statement.{statement}
 use Rattle.lister.proofs.skip_rest.Tie as tie
 
@@ -10,25 +10,36 @@ abbrev μ-loop : tie.MeasureT-loop
 μ-loop input turns₀ turns = turns
 
 loop-holds : tie.Need-loop-holds Inv-loop μ-loop
-loop-holds c = tt
+loop-holds c = search needs
 
 skip-some-requires : tie.Need-skip-some-requires Inv-loop μ-loop
-skip-some-requires c κs = tt
+skip-some-requires c κs = search needs
 
-sub-turns : tie.Need-sub-turns Inv-loop μ-loop
-sub-turns c = omega arith
+enum-known-got : tie.Need-enum-known-got Inv-loop μ-loop
+enum-known-got c = search needs
 
-loop-less : tie.Need-loop-less Inv-loop μ-loop
-loop-less c = omega arith
-
-loop-again : tie.Need-loop-again Inv-loop μ-loop
-loop-again c = tt
+enum-told : tie.Need-enum-told Inv-loop μ-loop
+enum-told c = search needs
 
 returns : tie.Need-returns Inv-loop μ-loop
-returns c = tt
+returns c = search needs
 
 returns-2 : tie.Need-returns-2 Inv-loop μ-loop
-returns-2 c = tt
+returns-2 c = search needs
+
+sub-turns : tie.Need-sub-turns Inv-loop μ-loop
+sub-turns c = search needs
+
+loop-less : tie.Need-loop-less Inv-loop μ-loop
+loop-less c = search needs
+
+loop-again : tie.Need-loop-again Inv-loop μ-loop
+loop-again c = search needs
+
+returns-3 : tie.Need-returns-3 Inv-loop μ-loop
+returns-3 c = search needs
 
 pub skip-rest-spec : {M : Type 1} → statement M
-skip-rest-spec = tie.close (tie.spec Inv-loop μ-loop loop-holds skip-some-requires sub-turns loop-less loop-again returns returns-2)
+skip-rest-spec =
+    tie.close
+    (tie.spec Inv-loop μ-loop loop-holds skip-some-requires enum-known-got enum-told returns returns-2 sub-turns loop-less loop-again returns-3)

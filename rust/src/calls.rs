@@ -1,0 +1,168 @@
+//! The calls, over the functions of `raw`. The `unsafe` blocks are sound since slices, and references to local numbers, are
+//! what the header asks of pointers and lengths: a slice's pointer is valid, aligned and not null, also where it is empty,
+//! and what is lent to be written overlaps nothing else.
+use super::{raw, Extension, Refusal, Summary};
+use core::cmp::Ordering;
+
+/// The test: whether the record is inverse Lyndon, and if not, where and how it fails.
+///
+/// `work` has at least as many entries as the record has bytes; after a result these are 0.
+///
+/// Refusals: [`EMPTY_RECORD`](Refusal::EMPTY_RECORD), [`LONG_RECORD`](Refusal::LONG_RECORD),
+/// [`SHORT_WORK`](Refusal::SHORT_WORK).
+///
+/// ```
+/// use metsroeb::{find_extension, Extension, Refusal};
+///
+/// let mut work = [0; 9];
+/// let found = Extension::Failing { failing: 9, prefix: 5, border: 3 };
+/// assert_eq!(find_extension(b"cbabacbac", &mut work), Ok(found));
+/// assert_eq!(find_extension(b"baba", &mut work), Ok(Extension::InverseLyndon));
+/// assert_eq!(find_extension(b"cbabacbac", &mut work[1..]), Err(Refusal::SHORT_WORK));
+/// ```
+#[inline]
+pub fn find_extension(record: &[u8], work: &mut [u16]) -> Result<Extension, Refusal> {
+    let (mut failing, mut prefix, mut border) = (0, 0, 0);
+    Refusal::check(unsafe {
+        raw::metsroeb_test(record.as_ptr(), record.len(), work.as_mut_ptr(), work.len(), &mut failing, &mut prefix, &mut border)
+    })?;
+    Ok(match failing {
+        0 => Extension::InverseLyndon,
+        _ => Extension::Failing { failing: failing.into(), prefix: prefix.into(), border: border.into() },
+    })
+}
+
+/// The piece cut, ICFL: the ends of the factors, which are the part of `ends` that was filled, from its first entry on.
+///
+/// As many entries of `ends` as the record has bytes are always enough. `work` has at least three times as many; after a
+/// result, and after [`SHORT_RESULT`](Refusal::SHORT_RESULT), these are 0.
+///
+/// Refusals: [`EMPTY_RECORD`](Refusal::EMPTY_RECORD), [`LONG_RECORD`](Refusal::LONG_RECORD),
+/// [`SHORT_WORK`](Refusal::SHORT_WORK), [`SHORT_RESULT`](Refusal::SHORT_RESULT).
+///
+/// ```
+/// use metsroeb::{icfl, Refusal};
+///
+/// let (mut work, mut ends) = ([0; 27], [0; 2]);
+/// assert_eq!(icfl(b"cbabacbac", &mut work, &mut ends)?, [5, 9]);
+/// assert_eq!(icfl(b"cbabacbac", &mut work, &mut ends[..1]), Err(Refusal::SHORT_RESULT));
+/// # Ok::<(), Refusal>(())
+/// ```
+#[inline]
+pub fn icfl<'a>(record: &[u8], work: &mut [u16], ends: &'a mut [u16]) -> Result<&'a [u16], Refusal> {
+    let mut count = 0;
+    Refusal::check(unsafe {
+        raw::metsroeb_icfl(
+            record.as_ptr(),
+            record.len(),
+            work.as_mut_ptr(),
+            work.len(),
+            ends.as_mut_ptr(),
+            ends.len(),
+            &mut count,
+        )
+    })?;
+    Ok(&ends[..usize::from(count)])
+}
+
+/// The strict cut, the Lyndon factorization in the inverse order: the ends of its factors, which are anti-Lyndon words. They
+/// are the part of `ends` that was filled, from its first entry on. As many entries as the record has bytes are always
+/// enough.
+///
+/// Refusals: [`EMPTY_RECORD`](Refusal::EMPTY_RECORD), [`LONG_RECORD`](Refusal::LONG_RECORD),
+/// [`SHORT_RESULT`](Refusal::SHORT_RESULT).
+///
+/// ```
+/// let mut ends = [0; 9];
+/// assert_eq!(metsroeb::cfl_in(b"cbabacbac", &mut ends)?, [5, 8, 9]);
+/// # Ok::<(), metsroeb::Refusal>(())
+/// ```
+#[inline]
+pub fn cfl_in<'a>(record: &[u8], ends: &'a mut [u16]) -> Result<&'a [u16], Refusal> {
+    let mut count = 0;
+    Refusal::check(unsafe { raw::metsroeb_cfl_in(record.as_ptr(), record.len(), ends.as_mut_ptr(), ends.len(), &mut count) })?;
+    Ok(&ends[..usize::from(count)])
+}
+
+/// The start table: for each place of the record the length of the longest anti-Lyndon word that starts there. It is the part
+/// of `lengths` that was filled, as many entries as the record has bytes, from the first entry on.
+///
+/// Refusals: [`EMPTY_RECORD`](Refusal::EMPTY_RECORD), [`LONG_RECORD`](Refusal::LONG_RECORD),
+/// [`SHORT_RESULT`](Refusal::SHORT_RESULT).
+///
+/// ```
+/// let mut lengths = [0; 9];
+/// assert_eq!(metsroeb::lyndon_table(b"cbabacbac", &mut lengths)?, [5, 2, 1, 2, 1, 3, 2, 1, 1]);
+/// # Ok::<(), metsroeb::Refusal>(())
+/// ```
+#[inline]
+pub fn lyndon_table<'a>(record: &[u8], lengths: &'a mut [u16]) -> Result<&'a [u16], Refusal> {
+    let mut count = 0;
+    Refusal::check(unsafe {
+        raw::metsroeb_lyndon_table(record.as_ptr(), record.len(), lengths.as_mut_ptr(), lengths.len(), &mut count)
+    })?;
+    Ok(&lengths[..usize::from(count)])
+}
+
+/// The comparison, in the inverse order, of the words from `start` to `end` and from `other` to `end`: `Less` if the one at
+/// `start` comes first, `Equal` if the starts are equal, `Greater` otherwise.
+///
+/// In this order a proper prefix comes first, and at a first difference the larger byte. The range is `first` to `end`, of any
+/// part of the record.
+///
+/// Refusals: [`EMPTY_RECORD`](Refusal::EMPTY_RECORD), [`LONG_RECORD`](Refusal::LONG_RECORD),
+/// [`BAD_RANGE`](Refusal::BAD_RANGE), [`BAD_START`](Refusal::BAD_START).
+///
+/// ```
+/// use metsroeb::compare_suffixes;
+/// use std::cmp::Ordering;
+///
+/// assert_eq!(compare_suffixes(b"bba", 0, 2, 0, 1), Ok(Ordering::Greater));
+/// assert_eq!(compare_suffixes(b"bba", 0, 3, 0, 1), Ok(Ordering::Less));
+/// ```
+#[inline]
+pub fn compare_suffixes(record: &[u8], first: usize, end: usize, start: usize, other: usize) -> Result<Ordering, Refusal> {
+    let mut sign = 0;
+    Refusal::check(unsafe { raw::metsroeb_compare(record.as_ptr(), record.len(), first, end, start, other, &mut sign) })?;
+    Ok(sign.cmp(&0))
+}
+
+/// The reader: factor `number`, from 0, of those that the list of ends marks. It is a part of the record itself, not a copy.
+/// The list need not be the piece cut.
+///
+/// Refusals: [`EMPTY_RECORD`](Refusal::EMPTY_RECORD), [`LONG_RECORD`](Refusal::LONG_RECORD),
+/// [`BAD_ENDS`](Refusal::BAD_ENDS), [`BAD_NUMBER`](Refusal::BAD_NUMBER).
+///
+/// ```
+/// use metsroeb::{factor_at, Refusal};
+///
+/// assert_eq!(factor_at(b"cbabacbac", &[5, 9], 1), Ok(&b"cbac"[..]));
+/// assert_eq!(factor_at(b"cbabacbac", &[5, 9], 2), Err(Refusal::BAD_NUMBER));
+/// ```
+#[inline]
+pub fn factor_at<'a>(record: &'a [u8], ends: &[u16], number: usize) -> Result<&'a [u8], Refusal> {
+    let (mut first, mut end) = (0, 0);
+    Refusal::check(unsafe {
+        raw::metsroeb_factor(record.as_ptr(), record.len(), ends.as_ptr(), ends.len(), number, &mut first, &mut end)
+    })?;
+    Ok(&record[usize::from(first)..usize::from(end)])
+}
+
+/// The summary of the factors that the list of ends marks. The list need not be the piece cut.
+///
+/// Refusals: [`EMPTY_RECORD`](Refusal::EMPTY_RECORD), [`LONG_RECORD`](Refusal::LONG_RECORD),
+/// [`BAD_ENDS`](Refusal::BAD_ENDS).
+///
+/// ```
+/// let summary = metsroeb::summarize(b"cbabacbac", &[5, 9])?;
+/// assert_eq!((summary.count, summary.longest, summary.from), (2, 5, 0));
+/// assert_eq!(summary.bands, [0, 0, 2, 0, 0, 0, 0, 0, 0, 0, 0, 0, 0]); // both lengths, 5 and 4, have three binary digits
+/// # Ok::<(), metsroeb::Refusal>(())
+/// ```
+#[inline]
+pub fn summarize(record: &[u8], ends: &[u16]) -> Result<Summary, Refusal> {
+    let raw::Summary { refusal, count, longest, from, bands } =
+        unsafe { raw::metsroeb_summarize(record.as_ptr(), record.len(), ends.as_ptr(), ends.len()) };
+    Refusal::check(refusal)?;
+    Ok(Summary { count, longest, from, bands })
+}

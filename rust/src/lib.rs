@@ -1,0 +1,35 @@
+//! Metsroeb cuts a record into pieces at places that its bytes alone decide: the canonical inverse Lyndon factorization
+//! (ICFL) of a word. The calls are proved (see the repository's README); this crate lends them slices and gives their
+//! answers as Rust values. It needs no heap, no standard library, and no other crate.
+//!
+//! A record is a word of 1 to [`MOST`] bytes; all 256 values are ordinary letters. Places count from 0; an end is the place
+//! just past the last byte. No call has a precondition: it gives a result or a [`Refusal`], and never panics.
+//!
+//! ```
+//! fn main() -> Result<(), metsroeb::Refusal> {
+//!     let record = b"cbabacbac";
+//!     let (mut work, mut ends) = ([0; 27], [0; 9]);
+//!     let ends = metsroeb::icfl(record, &mut work, &mut ends)?;
+//!     assert_eq!(ends, [5, 9]);
+//!     assert_eq!(metsroeb::factor_at(record, ends, 1)?, b"cbac");
+//!     Ok(())
+//! }
+//! ```
+//!
+//! Buffers are lent as they are: their content before a call does not matter. A refusal leaves every buffer as it was, but
+//! for [`icfl`]'s work buffer after [`Refusal::SHORT_RESULT`]; entries past those that a call is said to write stay as they
+//! were.
+#![no_std]
+#![warn(missing_docs)]
+
+mod answers;
+mod calls;
+pub mod raw;
+mod refusal;
+
+pub use answers::{Extension, Summary};
+pub use calls::{cfl_in, compare_suffixes, factor_at, find_extension, icfl, lyndon_table, summarize};
+pub use refusal::Refusal;
+
+/// The most bytes of a record.
+pub const MOST: usize = 4096;

@@ -1,0 +1,84 @@
+//! The exported functions as `include/metsroeb.h` declares them: numbers in and out, 0 for a result or the number of the
+//! refusal. [`Refusal::check`](crate::Refusal::check) turns that number into a `Result`.
+//!
+//! # Safety
+//!
+//! For every function: every pointer is valid and not null, also where its length is 0, and aligned; every length is true;
+//! what can be written overlaps no other argument. Nothing else is asked.
+
+/// `metsroeb_summary`: what the factors that a list of ends marks come to. Beside a refusal all else is 0.
+#[repr(C)]
+#[derive(Clone, Copy, Debug, PartialEq, Eq)]
+pub struct Summary {
+    /// 0, or the number of the refusal.
+    pub refusal: u8,
+    /// Number of factors.
+    pub count: u16,
+    /// Greatest length of a factor.
+    pub longest: u16,
+    /// First place of the earliest factor of that length.
+    pub from: u16,
+    /// `bands[k]`: number of factors whose length has k + 1 binary digits.
+    pub bands: [u16; 13],
+}
+
+extern "C" {
+    /// The test: see [`find_extension`](crate::find_extension). An inverse Lyndon record has 0 in all three numbers.
+    pub fn metsroeb_test(
+        record: *const u8,
+        record_len: usize,
+        work: *mut u16,
+        work_len: usize,
+        failing: *mut u16,
+        prefix: *mut u16,
+        border: *mut u16,
+    ) -> u8;
+
+    /// The piece cut: see [`icfl`](crate::icfl).
+    pub fn metsroeb_icfl(
+        record: *const u8,
+        record_len: usize,
+        work: *mut u16,
+        work_len: usize,
+        ends: *mut u16,
+        ends_len: usize,
+        count: *mut u16,
+    ) -> u8;
+
+    /// The strict cut: see [`cfl_in`](crate::cfl_in).
+    pub fn metsroeb_cfl_in(record: *const u8, record_len: usize, ends: *mut u16, ends_len: usize, count: *mut u16) -> u8;
+
+    /// The start table: see [`lyndon_table`](crate::lyndon_table).
+    pub fn metsroeb_lyndon_table(
+        record: *const u8,
+        record_len: usize,
+        lengths: *mut u16,
+        lengths_len: usize,
+        count: *mut u16,
+    ) -> u8;
+
+    /// The comparison: see [`compare_suffixes`](crate::compare_suffixes). The sign is -1, 0 or 1.
+    pub fn metsroeb_compare(
+        record: *const u8,
+        record_len: usize,
+        first: usize,
+        end: usize,
+        start: usize,
+        other: usize,
+        sign: *mut i8,
+    ) -> u8;
+
+    /// The reader: see [`factor_at`](crate::factor_at). The factor's first place and its end.
+    pub fn metsroeb_factor(
+        record: *const u8,
+        record_len: usize,
+        ends: *const u16,
+        ends_len: usize,
+        number: usize,
+        first: *mut u16,
+        end: *mut u16,
+    ) -> u8;
+
+    /// The summary: see [`summarize`](crate::summarize).
+    pub fn metsroeb_summarize(record: *const u8, record_len: usize, ends: *const u16, ends_len: usize) -> Summary;
+}

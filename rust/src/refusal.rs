@@ -1,0 +1,88 @@
+//! Why a call was refused.
+use core::fmt::{self, Display, Formatter};
+use core::num::NonZeroU8;
+
+/// Why a call was refused: the number of the first line of paper 01's table that is met. It prints the line's condition.
+///
+/// ```
+/// use metsroeb::Refusal;
+///
+/// let refusal = metsroeb::cfl_in(b"", &mut [0; 9]).unwrap_err();
+/// assert_eq!(refusal, Refusal::EMPTY_RECORD);
+/// assert_eq!(refusal.number(), 1);
+/// assert_eq!(refusal.to_string(), "refusal 1: the record has length 0");
+/// ```
+#[derive(Clone, Copy, Debug, PartialEq, Eq, Hash)]
+pub struct Refusal(NonZeroU8);
+
+/// The lines of the table, in the order in which they are tried.
+impl Refusal {
+    /// All calls: the record has length 0.
+    pub const EMPTY_RECORD: Refusal = Refusal::line(1);
+    /// All calls: the record is longer than [`MOST`](crate::MOST).
+    pub const LONG_RECORD: Refusal = Refusal::line(2);
+    /// Test, piece cut: the work buffer has fewer entries than the record's length (test) or three times that (piece cut).
+    pub const SHORT_WORK: Refusal = Refusal::line(3);
+    /// Both cuts, start table: the result buffer has fewer entries than the answer.
+    pub const SHORT_RESULT: Refusal = Refusal::line(4);
+    /// Comparison: the range's first place is not below its end, or its end is above the record's length.
+    pub const BAD_RANGE: Refusal = Refusal::line(5);
+    /// Comparison: a start is below the range's first place, or not below its end.
+    pub const BAD_START: Refusal = Refusal::line(6);
+    /// Reader, summary: the list of ends is empty, its first end is 0, it does not rise strictly, or its last end is not the
+    /// record's length.
+    pub const BAD_ENDS: Refusal = Refusal::line(7);
+    /// Reader: the factor's number is not below the number of ends.
+    pub const BAD_NUMBER: Refusal = Refusal::line(8);
+
+    const fn line(number: u8) -> Refusal {
+        match NonZeroU8::new(number) {
+            Some(number) => Refusal(number),
+            None => panic!("0 is no refusal"),
+        }
+    }
+
+    /// What a function of [`raw`](crate::raw) returned: a result for 0, a refusal for any other number.
+    ///
+    /// ```
+    /// # use metsroeb::Refusal;
+    /// assert_eq!(Refusal::check(0), Ok(()));
+    /// assert_eq!(Refusal::check(4), Err(Refusal::SHORT_RESULT));
+    /// ```
+    #[inline]
+    pub const fn check(number: u8) -> Result<(), Refusal> {
+        match NonZeroU8::new(number) {
+            Some(number) => Err(Refusal(number)),
+            None => Ok(()),
+        }
+    }
+
+    /// The number of the line.
+    #[inline]
+    pub const fn number(self) -> u8 {
+        self.0.get()
+    }
+
+    /// The condition of the line.
+    pub const fn condition(self) -> &'static str {
+        match self.number() {
+            1 => "the record has length 0",
+            2 => "the record has length above 4,096",
+            3 => "the work buffer has fewer entries than 3 × length (piece cut) or than the length (test)",
+            4 => "the result buffer has fewer entries than the answer has",
+            5 => "the first place is not below the end, or the end is above the length",
+            6 => "a start is below the first place, or not below the end",
+            7 => "the list of ends is empty, its first end is 0, it is not strictly rising, or its last end is not the length",
+            8 => "the piece number is not below the number of ends",
+            _ => "no line of the table that this crate knows",
+        }
+    }
+}
+
+impl Display for Refusal {
+    fn fmt(&self, out: &mut Formatter) -> fmt::Result {
+        write!(out, "refusal {}: {}", self.number(), self.condition())
+    }
+}
+
+impl core::error::Error for Refusal {}

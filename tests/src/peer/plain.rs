@@ -1,0 +1,190 @@
+//! The algorithms, with the library's checks, passes and buffers.
+use super::raw::Summary;
+use super::Extension;
+use metsroeb::MOST;
+
+fn check_record(record: &[u8]) -> Result<(), u8> {
+    match record.len() {
+        0 => Err(1),
+        n if n > MOST => Err(2),
+        _ => Ok(()),
+    }
+}
+
+fn check_ends(ends: &[u16], length: usize) -> Result<(), u8> {
+    let mut last = 0;
+    for &end in ends {
+        if end <= last {
+            return Err(7);
+        }
+        last = end;
+    }
+    if last as usize != length {
+        return Err(7);
+    }
+    Ok(())
+}
+
+/// Scans to the first letter larger than the one it meets, with the border table, and walks down the borders there.
+fn extension_of(word: &[u8], table: &mut [u16]) -> Extension {
+    let (mut border, mut length) = (0, 1);
+    while length < word.len() {
+        let (new, met) = (word[length], word[border]);
+        if met < new {
+            while border > 0 {
+                let next = table[border - 1] as usize;
+                if new <= word[next] {
+                    break;
+                }
+                border = next;
+            }
+            return Extension::Failing { failing: length + 1, prefix: length - border, border };
+        }
+        table[length - 1] = border as u16;
+        border = if new == met { border + 1 } else { 0 };
+        length += 1;
+    }
+    Extension::InverseLyndon
+}
+
+pub fn find_extension(record: &[u8], work: &mut [u16]) -> Result<Extension, u8> {
+    check_record(record)?;
+    let Some(work) = work.get_mut(..record.len()) else { return Err(3) };
+    let found = extension_of(record, work);
+    work.fill(0);
+    Ok(found)
+}
+
+/// Forward: the end of p and |r| of each break. Backward: the ends that are kept gather before the word's end.
+pub fn icfl(record: &[u8], work: &mut [u16], ends: &mut [u16]) -> Result<usize, u8> {
+    check_record(record)?;
+    let n = record.len();
+    let Some(work) = work.get_mut(..3 * n) else { return Err(3) };
+    let (table, stack) = work.split_at_mut(n);
+    let (mut from, mut count) = (0, 0);
+    while let Extension::Failing { prefix, border, .. } = extension_of(&record[from..], table) {
+        from += prefix;
+        stack[2 * count] = from as u16;
+        stack[2 * count + 1] = border as u16;
+        count += 1;
+    }
+    stack[2 * count] = n as u16;
+    let mut top = 2 * count;
+    for k in (0..count).rev() {
+        let (end, border) = (stack[2 * k], stack[2 * k + 1]);
+        if end + border < stack[top] {
+            top -= 1;
+            stack[top] = end;
+        }
+    }
+    let found = &stack[top..=2 * count];
+    let answer = match ends.get_mut(..found.len()) {
+        Some(ends) => {
+            ends.copy_from_slice(found);
+            Ok(found.len())
+        }
+        None => Err(4),
+    };
+    work.fill(0);
+    answer
+}
+
+/// Duval's algorithm in the inverse order.
+fn duval(word: &[u8], mut emit: impl FnMut(usize)) {
+    let mut from = 0;
+    while from < word.len() {
+        let (mut met, mut at) = (from, from + 1);
+        while at < word.len() && word[at] <= word[met] {
+            met = if word[at] == word[met] { met + 1 } else { from };
+            at += 1;
+        }
+        while from <= met {
+            from += at - met;
+            emit(from);
+        }
+    }
+}
+
+pub fn cfl_in(record: &[u8], ends: &mut [u16]) -> Result<usize, u8> {
+    check_record(record)?;
+    if ends.len() < record.len() {
+        let mut needed = 0;
+        duval(record, |_| needed += 1);
+        if ends.len() < needed {
+            return Err(4);
+        }
+    }
+    let mut count = 0;
+    duval(record, |end| {
+        ends[count] = end as u16;
+        count += 1;
+    });
+    Ok(count)
+}
+
+fn comes_before(u: &[u8], v: &[u8]) -> bool {
+    match u.iter().zip(v).find(|(a, b)| a != b) {
+        Some((a, b)) => a > b,
+        None => u.len() < v.len(),
+    }
+}
+
+/// From right to left, a place's word takes the words after it as long as it comes before them.
+pub fn lyndon_table(record: &[u8], lengths: &mut [u16]) -> Result<usize, u8> {
+    check_record(record)?;
+    let n = record.len();
+    let Some(lengths) = lengths.get_mut(..n) else { return Err(4) };
+    for i in (0..n).rev() {
+        let mut j = i + 1;
+        while j < n {
+            let next = lengths[j] as usize;
+            if !comes_before(&record[i..j], &record[j..j + next]) {
+                break;
+            }
+            j += next;
+        }
+        lengths[i] = (j - i) as u16;
+    }
+    Ok(n)
+}
+
+pub fn compare_suffixes(record: &[u8], first: usize, end: usize, start: usize, other: usize) -> Result<i8, u8> {
+    check_record(record)?;
+    if first >= end || end > record.len() {
+        return Err(5);
+    }
+    if start < first || start >= end || other < first || other >= end {
+        return Err(6);
+    }
+    let (x, y) = (&record[start..end], &record[other..end]);
+    match x.iter().zip(y).find(|(a, b)| a != b) {
+        Some((a, b)) => Ok(if a > b { -1 } else { 1 }),
+        None => Ok(x.len().cmp(&y.len()) as i8),
+    }
+}
+
+pub fn factor_at(record: &[u8], ends: &[u16], number: usize) -> Result<(u16, u16), u8> {
+    check_record(record)?;
+    check_ends(ends, record.len())?;
+    let Some(&end) = ends.get(number) else { return Err(8) };
+    Ok((if number == 0 { 0 } else { ends[number - 1] }, end))
+}
+
+pub fn summarize(record: &[u8], ends: &[u16]) -> Summary {
+    let mut summary = Summary { refusal: 0, count: 0, longest: 0, from: 0, bands: [0; 13] };
+    if let Err(no) = check_record(record).and_then(|()| check_ends(ends, record.len())) {
+        summary.refusal = no;
+        return summary;
+    }
+    let mut last = 0;
+    for &end in ends {
+        let length = end - last;
+        summary.count += 1;
+        summary.bands[15 - length.leading_zeros() as usize] += 1;
+        if summary.longest < length {
+            (summary.longest, summary.from) = (length, last);
+        }
+        last = end;
+    }
+    summary
+}

@@ -1,0 +1,148 @@
+//! The numbers that the exported functions write, each with guard entries of its own: those of the crate's answer, and 0 beside
+//! a refusal. What the crate answers is held to the promise by the other tests.
+use metsroeb::{raw, Extension, Refusal};
+use metsroeb_tests::lent::Lent;
+use metsroeb_tests::words::{all_words, Random};
+use std::cmp::Ordering;
+use std::fmt::Debug;
+
+/// Lends `call` a guarded place for each number, and panics unless it refuses as wanted and writes these numbers and nothing else.
+fn expect<T: Copy + Default + PartialEq + Debug, const N: usize>(
+    what: &str,
+    want: Result<[T; N], Refusal>,
+    mut numbers: [Lent<T>; N],
+    call: impl FnOnce([*mut T; N]) -> u8,
+) {
+    let mut after = numbers.clone();
+    let refusal = call(numbers.each_mut().map(|number| number.part().as_mut_ptr()));
+    assert_eq!(Refusal::check(refusal), want.map(|_| ()), "{what}");
+    let wanted = want.unwrap_or([T::default(); N]);
+    for (k, number) in numbers.iter().enumerate() {
+        after[k].part()[0] = wanted[k];
+        number.expect(&after[k], what);
+    }
+}
+
+fn entries<const N: usize>(random: &mut Random) -> [Lent<u16>; N] {
+    std::array::from_fn(|_| Lent::entries(1, random))
+}
+
+/// Short words, and records at and far above the boundary of line 2.
+fn records() -> Vec<Vec<u8>> {
+    let long = [4096, 4097, 65_536, 65_537].map(|length| vec![b'a'; length]);
+    (0..=6).flat_map(|length| all_words(2, length)).chain(long).collect()
+}
+
+/// The sizes from 0 to twice 7, and those at and around `needed`.
+fn sizes(needed: usize) -> impl Iterator<Item = usize> {
+    (0..=14).chain(needed.saturating_sub(1)..=needed + 1)
+}
+
+#[test]
+fn extension() {
+    let mut random = Random::new(0x5eed_0031);
+    for word in records() {
+        for work_len in sizes(word.len()) {
+            let mut work = vec![0; work_len];
+            let want = metsroeb::find_extension(&word, &mut work).map(|found| match found {
+                Extension::InverseLyndon => [0; 3],
+                Extension::Failing { failing, prefix, border } => [failing, prefix, border].map(|length| length as u16),
+            });
+            expect("metsroeb_test", want, entries(&mut random), |[failing, prefix, border]| unsafe {
+                raw::metsroeb_test(word.as_ptr(), word.len(), work.as_mut_ptr(), work_len, failing, prefix, border)
+            });
+        }
+    }
+}
+
+#[test]
+fn counts() {
+    let mut random = Random::new(0x5eed_0032);
+    for word in records() {
+        let n = word.len();
+        for len in sizes(n) {
+            let mut result = vec![0; len];
+            for work_len in [0, 3 * n, 3 * n + 1] {
+                let mut work = vec![0; work_len];
+                let want = metsroeb::icfl(&word, &mut work, &mut result).map(|ends| [ends.len() as u16]);
+                expect("metsroeb_icfl", want, entries(&mut random), |[count]| unsafe {
+                    raw::metsroeb_icfl(word.as_ptr(), n, work.as_mut_ptr(), work_len, result.as_mut_ptr(), len, count)
+                });
+            }
+            let want = metsroeb::cfl_in(&word, &mut result).map(|ends| [ends.len() as u16]);
+            expect("metsroeb_cfl_in", want, entries(&mut random), |[count]| unsafe {
+                raw::metsroeb_cfl_in(word.as_ptr(), n, result.as_mut_ptr(), len, count)
+            });
+            let want = metsroeb::lyndon_table(&word, &mut result).map(|lengths| [lengths.len() as u16]);
+            expect("metsroeb_lyndon_table", want, entries(&mut random), |[count]| unsafe {
+                raw::metsroeb_lyndon_table(word.as_ptr(), n, result.as_mut_ptr(), len, count)
+            });
+        }
+    }
+}
+
+#[test]
+fn sign() {
+    let mut random = Random::new(0x5eed_0033);
+    for word in records() {
+        for _ in 0..200 {
+            let [first, end, start, other] = std::array::from_fn(|_| random.below(9));
+            let sign = |order| match order {
+                Ordering::Less => [-1],
+                Ordering::Equal => [0],
+                Ordering::Greater => [1],
+            };
+            let want = metsroeb::compare_suffixes(&word, first, end, start, other).map(sign);
+            expect("metsroeb_compare", want, [Lent::sign(&mut random)], |[sign]| unsafe {
+                raw::metsroeb_compare(word.as_ptr(), word.len(), first, end, start, other, sign)
+            });
+        }
+    }
+}
+
+/// Lists that are taken, and lists that are not.
+fn lists(length: usize) -> Vec<Vec<u16>> {
+    let last = length as u16;
+    vec![
+        vec![],
+        vec![0],
+        vec![last],
+        vec![1, last],
+        vec![2, last],
+        vec![last, last],
+        (1..=last).collect(),
+        vec![last.wrapping_add(1)],
+    ]
+}
+
+#[test]
+fn places() {
+    let mut random = Random::new(0x5eed_0034);
+    for word in records() {
+        for list in lists(word.len()) {
+            for number in 0..=list.len() + 1 {
+                let want = metsroeb::factor_at(&word, &list, number).map(|part| {
+                    let end = list[number];
+                    [end - part.len() as u16, end]
+                });
+                expect("metsroeb_factor", want, entries(&mut random), |[first, end]| unsafe {
+                    raw::metsroeb_factor(word.as_ptr(), word.len(), list.as_ptr(), list.len(), number, first, end)
+                });
+            }
+        }
+    }
+}
+
+#[test]
+fn summary() {
+    for word in records() {
+        for list in lists(word.len()) {
+            let got = unsafe { raw::metsroeb_summarize(word.as_ptr(), word.len(), list.as_ptr(), list.len()) };
+            let want = match metsroeb::summarize(&word, &list) {
+                Ok(all) => raw::Summary { refusal: 0, count: all.count, longest: all.longest, from: all.from, bands: all.bands },
+                Err(refusal) => raw::Summary { refusal: refusal.number(), count: 0, longest: 0, from: 0, bands: [0; 13] },
+            };
+            assert_eq!(got, want);
+        }
+    }
+}
