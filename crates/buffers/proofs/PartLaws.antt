@@ -1,6 +1,6 @@
 -- Parts of a list: a part of a part (drop-to); and as code lends them: between two places (part-is), from a place to the end (rest-is), and the
 -- whole after a part of it was lent for writing (rest-back).
-use mathlib.Core.Path.{_≡_, ap, sym, _∙_}
+use mathlib.Core.Path.{_≡_, ap, _∙_}
 use mathlib.Core.List.{List, [], _∷_, _++_, append-nil}
 use Prim.Native.Nat.{ℕ, zero, suc, _+_, _-_, _≤_}
 use native.Mathlib.Omega.{arith}

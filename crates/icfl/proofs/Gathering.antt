@@ -1,11 +1,11 @@
 -- Forward pass, the word's end after the breaks, backward pass: the ends of the factors then stand in a row in the work buffer (ends-found).
 use mathlib.Core.Path.{_≡_, refl, ap, sym, subst, _∙_}
-use mathlib.Core.List.{List, _++_, append-nil}
+use mathlib.Core.List.{List, _++_}
 use Prim.Native.Nat.{ℕ, _+_, _-_, _*_}
 use native.Mathlib.Nat.{zero-add}
 use native.Mathlib.Omega.{arith}
-use lib.ListN.{length, take, drop, getD, set, length-append, length-drop, length-set, drop-of-length-le}
-use lib.Seq.{take-all, take-set-le, drop-set-add, drop-set-lt, drop-drop, take-at, drop-append-add, getD-set-same, length-take-le}
+use lib.ListN.{length, take, drop, getD, set, length-append, length-drop, length-set}
+use lib.Seq.{take-set-le, drop-set-add, drop-set-lt, drop-drop, take-at, drop-append-add, getD-set-same, length-take-le}
 use Rattle.buffers.proofs.PartLaws.{rest, rest-is, rest-back}
 use Rattle.words.specs.Factorizations.{icflEnds}
 use Rattle.words.specs.scan.Breaks.{foldEnds, breaks-ends}

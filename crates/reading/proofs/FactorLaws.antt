@@ -1,11 +1,11 @@
 -- What the lines on a list of ends tell where they pass: part k lies in the record (placed), and the list is one that the summary's loop
 -- takes (summable).
 use mathlib.Core.Path.{_≡_}
-use mathlib.Core.List.{List, _∷_}
+use mathlib.Core.List.{List}
 use Prim.Native.Nat.{ℕ, _≤_, _<_}
 use native.Mathlib.Omega.{arith}
 use lib.ListN.{length, getD}
-use borrow.Author.Tests.{ltb-false, leb-false}
+use borrow.Author.Tests.{leb-false}
 use Rattle.words.specs.Words.{mostLetters}
 use Rattle.words.specs.places.EndsRise.{Rises, rises-few, rises-inside, rises-at}
 use Rattle.checks.specs.declared.Checked.the-variants.{Passed}
