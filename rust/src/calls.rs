@@ -1,12 +1,14 @@
 //! The calls, over the functions of `raw`. The `unsafe` blocks are sound since slices, and references to local numbers, are
 //! what the header asks of pointers and lengths: a slice's pointer is valid, aligned and not null, also where it is empty,
 //! and what is lent to be written overlaps nothing else.
+//!
+//! The tests compile this file a second time over a `raw` of their own, so it takes its names from the module above it.
 use super::{raw, Extension, Refusal, Summary};
 use core::cmp::Ordering;
 
 /// The test: whether the record is inverse Lyndon, and if not, where and how it fails.
 ///
-/// `work` has at least as many entries as the record has bytes; after a result these are 0.
+/// `work` needs as many entries as the record has bytes; after a result these are 0.
 ///
 /// Refusals: [`EMPTY_RECORD`](Refusal::EMPTY_RECORD), [`LONG_RECORD`](Refusal::LONG_RECORD),
 /// [`SHORT_WORK`](Refusal::SHORT_WORK).
@@ -34,8 +36,8 @@ pub fn find_extension(record: &[u8], work: &mut [u16]) -> Result<Extension, Refu
 
 /// The piece cut, ICFL: the ends of the factors, which are the part of `ends` that was filled, from its first entry on.
 ///
-/// As many entries of `ends` as the record has bytes are always enough. `work` has at least three times as many; after a
-/// result, and after [`SHORT_RESULT`](Refusal::SHORT_RESULT), these are 0.
+/// As many entries of `ends` as the record has bytes are always enough. `work` needs three times as many; after a result,
+/// and after [`SHORT_RESULT`](Refusal::SHORT_RESULT), these are 0.
 ///
 /// Refusals: [`EMPTY_RECORD`](Refusal::EMPTY_RECORD), [`LONG_RECORD`](Refusal::LONG_RECORD),
 /// [`SHORT_WORK`](Refusal::SHORT_WORK), [`SHORT_RESULT`](Refusal::SHORT_RESULT).
