@@ -3,6 +3,7 @@
 mod records; // the records: all short ones, random ones, long ones
 mod groups; // the groups of records, and the calls that are made on each
 mod printing; // the lines that are printed
+mod known; // what paper 01 says of single records
 
 use groups::Group;
 use groups::try_group;
@@ -10,6 +11,7 @@ use trials::Run;
 use trials::STATE;
 
 fn main() {
+    known::print_known();
     let mut run: Run = [0; STATE + 1];
     run[STATE] = 20011;
     try_group(Group::Words { letters: 2 }, 1022, &mut run);

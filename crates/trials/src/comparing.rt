@@ -16,27 +16,24 @@ fn comparison_is(word: &[u8], first: usize, end: usize, start: usize, other: usi
     }
 }
 
-// In a range, with two starts at random.
-fn agrees_in(word: &[u8], first: usize, end: usize, run: &mut Run) -> bool {
-    let start = plus(first, draw(run, minus(end, first)));
-    let other = plus(first, draw(run, minus(end, first)));
-    comparison_is(word, first, end, start, other)
-}
-
-/// In a range at random, from case 8 on in one of whole parts.
+/// In a range at random, from case 8 on in one of whole parts, with two starts at random.
 pub fn agrees(word: &[u8], ends: &[u16], code: usize, run: &mut Run) -> bool {
     let many = if code < 8 { word.len() } else { ends.len() };
     let from = draw(run, many);
     let last = plus(from, draw(run, minus(many, from)));
-    if code < 8 {
-        return agrees_in(word, from, plus(last, 1), run);
-    }
-    agrees_in(
-        word,
-        naive::part_start(ends, from),
-        naive::part_end(ends, last),
-        run,
-    )
+    let first = if code < 8 {
+        from
+    } else {
+        naive::part_start(ends, from)
+    };
+    let end = if code < 8 {
+        plus(last, 1)
+    } else {
+        naive::part_end(ends, last)
+    };
+    let start = plus(first, draw(run, minus(end, first)));
+    let other = plus(first, draw(run, minus(end, first)));
+    comparison_is(word, first, end, start, other)
 }
 
 /// How many cases there are at the boundaries of range and starts.

@@ -1,7 +1,7 @@
 //! The calls that are lent buffers, with every entry of these: the test, both cuts, the start table.
 use super::buffers::fill;
 use super::buffers::is_left;
-use super::numbers::about_needed;
+use super::numbers::about;
 use checks::Counted;
 use extension::Extension;
 use naive::Call;
@@ -45,8 +45,8 @@ fn call_with(call: Call, word: &[u8], work: &mut [u16], list: &mut [u16]) -> Cou
     }
 }
 
-// The call, lent `room` work entries and `space` result entries; 99 where there are not so many.
-fn lend(
+/// The call, lent `room` work entries and `space` result entries; 99 where there are not so many.
+pub fn lend(
     call: Call,
     word: &[u8],
     work: &mut [u16],
@@ -63,14 +63,6 @@ fn lend(
     call_with(call, word, &mut work[0..room], &mut list[0..space])
 }
 
-// Whether the answer is the refusal, or the count where that is 0.
-fn is_count(answer: Counted, refused: u8, count: usize) -> bool {
-    match answer {
-        Counted::Refused(number) => refused != 0 && number == refused,
-        Counted::Count(found) => refused == 0 && found == count,
-    }
-}
-
 // Whether the answer is the list `want` or the refusal, and both buffers are as paper 01 says after it.
 fn is_right(
     answer: Counted,
@@ -80,13 +72,17 @@ fn is_right(
     work: &[u16],
     list: &[u16],
 ) -> bool {
+    let answered = match answer {
+        Counted::Refused(number) => refused != 0 && number == refused,
+        Counted::Count(count) => refused == 0 && count == want.len(),
+    };
     let cleared = if refused == 0 || refused == 4 {
         needed
     } else {
         0
     };
     let written = if refused == 0 { want.len() } else { 0 };
-    is_count(answer, refused, want.len())
+    answered
         && is_left(work, cleared, front(want, 0), WORK_SALT)
         && is_left(list, 0, front(want, written), SALT)
 }
@@ -120,16 +116,17 @@ pub fn agrees(call: Call, word: &[u8], want: &[u16]) -> bool {
     lent_is(call, word, room, plus(want.len(), n % 5), want) && is_defined(call, word, want)
 }
 
-/// Case `code` at the boundaries of the buffers' lengths: 4 where one is lent, 16 for the piece cut.
+/// Case `code` at the boundaries of the buffers' lengths: no entry, one too few, as many as needed, one more; 4 where one buffer is lent, 16 for the
+/// piece cut.
 pub fn agrees_at_limits(call: Call, word: &[u8], want: &[u16], code: usize) -> bool {
     let needed = work_needed(call, word.len());
     match call {
-        Call::Test => lent_is(call, word, about_needed(needed, code), want.len(), want),
+        Call::Test => lent_is(call, word, about(0, needed, code % 4 + 1), want.len(), want),
         _ => lent_is(
             call,
             word,
-            about_needed(needed, code / 4),
-            about_needed(want.len(), code),
+            about(0, needed, code / 4 % 4 + 1),
+            about(0, want.len(), code % 4 + 1),
             want,
         ),
     }

@@ -10,6 +10,7 @@ mod driver; // so many cases of a call
 
 pub use comparing::RANGES;
 pub use driver::try_cases;
+pub use lending::lend;
 pub use numbers::LISTS;
 pub use run::Run;
 pub use run::STATE;

@@ -22,11 +22,6 @@ pub fn about(a: usize, b: usize, which: usize) -> usize {
     }
 }
 
-/// None, one too few, as many as needed, one more.
-pub fn about_needed(needed: usize, which: usize) -> usize {
-    about(0, needed, which % 4 + 1)
-}
-
 // The end that letter i of a spelled word stands for: 0, 1, 2, 3, n − 1, n, n + 1 or the largest number.
 fn end_at(n: usize, word: &[u8], i: usize) -> usize {
     about(2, n, minus(letter(word, i) as usize, 97))

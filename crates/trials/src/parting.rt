@@ -6,7 +6,6 @@ use naive::entry;
 use naive::front;
 use naive::minus;
 use naive::tail;
-use reading::Summary;
 
 /// Whether the reader gives the part, or the refusal beside an empty one.
 pub fn part_agrees(word: &[u8], ends: &[u16], number: usize) -> bool {
@@ -36,12 +35,6 @@ fn are_bands(bands: &[u16], ends: &[u16]) -> bool {
     true
 }
 
-// Whether the summary has these numbers.
-fn has(summary: Summary, refused: u8, count: usize, longest: usize, from: usize) -> bool {
-    let numbered = summary.refusal == refused && (summary.count as usize) == count;
-    numbered && (summary.longest as usize) == longest && (summary.from as usize) == from
-}
-
 /// Whether the summary is that of the parts, or the refusal beside that of no parts, which is 0 throughout.
 pub fn summary_agrees(word: &[u8], ends: &[u16]) -> bool {
     let summary = reading::summarize(word, ends);
@@ -49,14 +42,10 @@ pub fn summary_agrees(word: &[u8], ends: &[u16]) -> bool {
     let parts = front(ends, if refused == 0 { ends.len() } else { 0 });
     let longest = naive::longest(parts);
     let bands = summary.bands;
-    has(
-        summary,
-        refused,
-        parts.len(),
-        longest,
-        naive::earliest(parts, longest),
-    )
-        && are_bands(&bands, parts)
+    let from = naive::earliest(parts, longest);
+    let numbered = summary.refusal == refused && (summary.count as usize) == parts.len();
+    let placed = (summary.longest as usize) == longest && (summary.from as usize) == from;
+    numbered && placed && are_bands(&bands, parts)
 }
 
 /// The reader on list `code` / 5 of those with faults, at one of five numbers about the number of its ends.

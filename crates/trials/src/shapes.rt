@@ -38,42 +38,33 @@ pub fn spell(word: &mut [u8], letters: usize, number: usize) -> usize {
     i
 }
 
-// Letter i at random, or that of one period before.
-fn periodic(word: &[u8], i: usize, letters: usize, period: usize, run: &mut Run) -> usize {
-    let new = draw(run, letters);
-    if i < period || period == 0 {
-        new
-    } else {
-        letter(word, minus(i, period)) as usize
-    }
-}
-
-// Letter i at random, or as the one before it.
-fn plateau(word: &[u8], i: usize, letters: usize, run: &mut Run) -> usize {
-    let new = draw(run, letters);
-    if draw(run, 4) == 0 {
-        new
-    } else {
-        letter(word, minus(i, 1)) as usize
-    }
-}
-
-// Letter i of c^k a c^k b.
-fn power(n: usize, i: usize) -> usize {
-    if i == minus(n, 1) {
-        return 98;
-    }
-    if i == minus(n, 2) / 2 { 97 } else { 99 }
-}
-
 // Letter i of n.
 fn letter_of(word: &[u8], n: usize, i: usize, shape: Shape, run: &mut Run) -> usize {
     match shape {
-        Shape::Periodic { letters, period } => periodic(word, i, letters, period, run),
-        Shape::Plateaus { letters } => plateau(word, i, letters, run),
+        Shape::Periodic { letters, period } => {
+            let new = draw(run, letters);
+            if i < period || period == 0 {
+                new
+            } else {
+                letter(word, minus(i, period)) as usize
+            }
+        }
+        Shape::Plateaus { letters } => {
+            let new = draw(run, letters);
+            if draw(run, 4) == 0 {
+                new
+            } else {
+                letter(word, minus(i, 1)) as usize
+            }
+        }
         Shape::Rising { width } => i / (width % 256 + 1),
         Shape::Falling { width } => minus(255, i / (width % 256 + 1)),
-        Shape::Powers => power(n, i),
+        Shape::Powers => {
+            if i == minus(n, 1) {
+                return 98;
+            }
+            if i == minus(n, 2) / 2 { 97 } else { 99 }
+        }
     }
 }
 
