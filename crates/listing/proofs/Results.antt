@@ -26,9 +26,10 @@ use Rattle.cfl.specs.CflIn.{cflInLines, CflInDone}
 use Rattle.reading.specs.Summary.{summaryLines, summaryOf, Summarized}
 use Rattle.reading.specs.declared.summary.Summary.{Summary}
 use Rattle.reading.proofs.SummaryLaws.{bands-length}
+use Rattle.text.specs.Writing.{FitsAt, WroteAt}
+use Rattle.text.proofs.Stores.{wrote-front}
 use Rattle.listing.specs.Listing.{linesOf, sevenLines, refusedLine, listingOf, Listed}
-use Rattle.listing.specs.Writing.{FitsAt, WroteAt, Printable, CutLists, ListingRoom, entriesOf}
-use Rattle.listing.proofs.Stores.{wrote-front}
+use Rattle.listing.specs.Writing.{Printable, CutLists, ListingRoom, entriesOf}
 use Rattle.listing.proofs.Bounds.{total-is, refused-most, total-most}
 
 -- ---- a record that is refused
