@@ -6,7 +6,7 @@ use mathlib.Core.Logic.{_⊎_, inl, inr}
 use mathlib.Core.List.{List, List·Memᴰ}
 use Prim.Native.Nat.{ℕ, zero, suc, _-_, _≤_, _<_}
 use native.Mathlib.Omega.{arith}
-use lib.ListN.{length, take, drop, replicate, length-drop, length-replicate}
+use lib.ListN.{length, drop, replicate, length-drop, length-replicate}
 use lib.Seq.{take-at, drop-at}
 use lib.IntN.{ℤ, pos, negsuc}
 use lib.Dec.{ltb}
@@ -29,7 +29,7 @@ use Rattle.checks.specs.Answers.{numbered, numberOf, countChecked, Filled}
 use Rattle.checks.specs.declared.Checked.{Checked}
 use Rattle.checks.specs.declared.Checked.the-variants.{Passed, Refused}
 use Rattle.checks.specs.declared.Counted.{Counted}
-use Rattle.checks.proofs.LineLaws.{not-both, said, everyNumber, among, first-listed, zero-passes, numbered-is, filled-counted}
+use Rattle.checks.proofs.LineLaws.{not-both, said, everyNumber, among, first-listed, zero-passes, numbered-is, filled-front}
 use Rattle.extension.specs.declared.Extension.{Extension}
 use Rattle.extension.specs.Extension.{extensionOf, testChecked, extensionLines, ExtensionFound}
 use Rattle.extension.proofs.VerdictLaws.{fails-told, holds-told, verdict-checked}
@@ -161,16 +161,12 @@ module _ (c : Calls) (m : Meets c) (w : List ℕ) (s : 1 ≤ length w) where
 
 -- ---- demand 3
 
--- the entries that a call wrote
-front : {lines : List Line} {vs buffer buffer′ : List ℕ} {n : ℕ} → Filled lines (length vs) vs buffer (Counted.Count n) buffer′ → take n buffer′ ≡ vs
-front {vs = vs} {buffer = buffer} f = let h = filled-counted f in rw (h .2, h .1) (take-at vs (drop (length vs) buffer) (length vs) refl)
-
 module _ (c : Calls) (m : Meets c) (w es ss : List ℕ) (compare : ℕ → ℕ → ℕ → ℕ → Comparison) (r : Runs c w es ss compare) where
   pieces-are : es ≡ icflEnds w
-  pieces-are = let q = r .pieceCut in q .6 ∙ front (m .pieceCut w _ _ _ _ _ (q .5) .filled)
+  pieces-are = let q = r .pieceCut in q .6 ∙ filled-front (m .pieceCut w _ _ _ _ _ (q .5) .filled) .0
 
   strict-are : ss ≡ cflInEnds w
-  strict-are = let q = r .strictCut in q .4 ∙ front (m .strictCut w _ _ _ (q .3))
+  strict-are = let q = r .strictCut in q .4 ∙ filled-front (m .strictCut w _ _ _ (q .3)) .0
 
   -- inside an accepted range the comparison answers the sign
   signs : (first end start other : ℕ) → end ≤ length w → first ≤ start → start < end → first ≤ other → other < end

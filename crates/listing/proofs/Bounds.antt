@@ -15,10 +15,11 @@ use Rattle.words.specs.places.EndsRise.{Rises, done, more, rises-few, rises-ins
 use Rattle.checks.proofs.RecordLaws.{Accepted}
 use Rattle.reading.specs.Summary.{lengthsFrom, greatest, startOf, bandsOf, summaryOf}
 use Rattle.reading.proofs.SummaryLaws.{count-most, bands-length, bands-at}
-use Rattle.listing.specs.Listing.{ascii, decimal, commaEach, commaList, linesOf, refusedLine}
+use Rattle.text.specs.Text.{ascii, decimal, commaEach, commaList}
+use Rattle.text.proofs.Decimals.{decimal-most}
+use Rattle.text.proofs.Texts.{line-length}
+use Rattle.listing.specs.Listing.{linesOf, refusedLine}
 use Rattle.listing.specs.Writing.{total}
-use Rattle.listing.proofs.Decimals.{decimal-most}
-use Rattle.listing.proofs.Texts.{line-length}
 
 pub total-is : (texts : List (List ℕ)) → length (flatten texts) ≡ total texts
 unfolding flatten

@@ -1,14 +1,13 @@
 -- The listing in each of its cases. A refused record is listed by its number (refused-listed). In buffers with room for every record neither cut refuses one
 -- that was accepted (icfl-passes, cfl-in-passes), so the ends of both stand at the fronts of two buffers (both-cut); nor does the summary, so the seven
 -- lines are the listing (lines-are).
-use mathlib.Core.Path.{_≡_, ap, sym, _∙_}
+use mathlib.Core.Path.{_≡_, sym, _∙_}
 use mathlib.Core.List.{List, []}
 use Prim.Native.Nat.{ℕ, _+_, _*_, _≤_, _<_}
 use native.Mathlib.Nat.{zero-add}
 use native.Mathlib.Omega.{arith}
 use borrow.Author.Tests.{le-ltb}
-use lib.ListN.{length, take, drop, length-append}
-use lib.Seq.{take-at}
+use lib.ListN.{length, take}
 use Rattle.words.specs.Words.{mostLetters}
 use Rattle.words.specs.Factorizations.{icflEnds, cflInEnds}
 use Rattle.words.specs.places.EndsRise.{rises-few, rises-some, icfl-ends-rise, cfl-in-ends-rise}
@@ -18,7 +17,7 @@ use Rattle.checks.specs.declared.Checked.the-variants.{Passed}
 use Rattle.checks.specs.declared.Counted.{Counted}
 use Rattle.checks.specs.Lines.{Line, tried, recordLines}
 use Rattle.checks.specs.Answers.{numberOf, Filled}
-use Rattle.checks.proofs.LineLaws.{IsRefused, refused, unmet, all-pass}
+use Rattle.checks.proofs.LineLaws.{IsRefused, not-both, refused, unmet, all-pass, filled-front, filled-number}
 use Rattle.checks.proofs.RecordLaws.{accepted}
 use Rattle.checks.proofs.EndsLaws.{EndsOf, ends-pass}
 use Rattle.icfl.specs.Icfl.{icflLines, IcflDone}
@@ -26,9 +25,10 @@ use Rattle.cfl.specs.CflIn.{cflInLines, CflInDone}
 use Rattle.reading.specs.Summary.{summaryLines, summaryOf, Summarized}
 use Rattle.reading.specs.declared.summary.Summary.{Summary}
 use Rattle.reading.proofs.SummaryLaws.{bands-length}
+use Rattle.text.specs.Writing.{FitsAt, WroteAt}
+use Rattle.text.proofs.Stores.{wrote-front}
 use Rattle.listing.specs.Listing.{linesOf, sevenLines, refusedLine, listingOf, Listed}
-use Rattle.listing.specs.Writing.{FitsAt, WroteAt, Printable, CutLists, ListingRoom, entriesOf}
-use Rattle.listing.proofs.Stores.{wrote-front}
+use Rattle.listing.specs.Writing.{Printable, CutLists, ListingRoom, entriesOf}
 use Rattle.listing.proofs.Bounds.{total-is, refused-most, total-most}
 
 -- ---- a record that is refused
@@ -55,9 +55,8 @@ module _ {work ends strict out : List ℕ} (room : ListingRoom work ends strict 
 -- the entries that the answer of a cut tells of
 front : {lines : List Line} {vs buffer buffer′ : List ℕ} {r : Counted} {n : ℕ} → Filled lines (length vs) vs buffer r buffer′
     → tried lines ≡ Passed → n ≡ entriesOf r → (take n buffer′ ≡ vs) × (n ≤ length buffer′)
-front {vs = vs} {buffer = buffer} {n = n} f e z =
-    let size : n ≡ length vs = z ∙ ap entriesOf (rw e at (f .answer)) in
-    rw (rw e at (f .result)) (take-at vs (drop (length vs) buffer) n (sym size), rw length-append (omega arith))
+front {r = Counted.Count m} f e z = rw z (filled-front f)
+front {r = Counted.Refused number} f e z = absurd (not-both (filled-number f .0) e)
 
 module _ (w : List ℕ) (e : tried (recordLines w) ≡ Passed) where
   icfl-passes : (work entries : ℕ) → 3 * mostLetters ≤ work → mostLetters ≤ entries → tried (icflLines w work entries) ≡ Passed

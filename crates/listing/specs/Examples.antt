@@ -2,7 +2,8 @@
 use mathlib.Core.Path.{_≡_, refl}
 use mathlib.Core.List.{[]}
 use lib.ListN.{replicate}
-use Rattle.listing.specs.Listing.{ascii, listingOf}
+use Rattle.text.specs.Text.{ascii}
+use Rattle.listing.specs.Listing.{listingOf}
 
 pub record Examples : Type 0 where
   pub h : listingOf (ascii "cbabacbac")

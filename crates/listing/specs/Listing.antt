@@ -1,49 +1,15 @@
 -- DEFINITIONS. The listing of a record, byte for byte (listingOf): "`key=value` lines in the order below, each ended by byte 10, or the one line
 -- `refused=` and the number."
 use mathlib.Core.Path.{_≡_}
-use mathlib.Core.Bool.{true, false}
-use mathlib.Core.List.{List, [], _∷_, _++_, flatten}
-use Prim.Native.Nat.{ℕ, zero, suc, _+_, _*_, _/_, _%_}
-use Prim.Native.String.{String, [] as empty, _∷_ as _before_}
-use Prim.Native.Char.{code}
+use mathlib.Core.List.{List, [], _∷_, flatten}
+use Prim.Native.Nat.{ℕ, _*_}
 use lib.ListN.{length}
-use lib.Dec.{ltb}
 use Rattle.words.specs.Factorizations.{icflEnds, cflInEnds}
 use Rattle.buffers.specs.Buffers.{cleared, written}
 use Rattle.checks.specs.Lines.{tried, _unless_then_, recordLines}
 use Rattle.reading.specs.Summary.{summaryOf}
 use Rattle.reading.specs.declared.summary.Summary.{Summary}
-
--- the bytes of a text of ASCII characters
-abbrev pub ascii : String → List ℕ
-ascii empty = []
-ascii (c before cs) = code c ∷ ascii cs
-
--- a number of at most k decimal digits; a digit d is the byte 48 + d
-unfoldable pub decimalWithin : ℕ → ℕ → List ℕ
-decimalWithin zero n = []
-decimalWithin (suc k) n = elim (ltb n 10) [ true ↦ (48 + n) ∷ [] | false ↦ decimalWithin k (n / 10) ++ (48 + n % 10) ∷ [] ]
-
--- a number in decimal, without leading zeros; n has at most n + 1 digits
-unfoldable pub decimal : ℕ → List ℕ
-unfolding decimalWithin
-decimal n = decimalWithin (suc n) n
-
--- numbers in decimal, with a comma before each
-unfoldable pub commaEach : List ℕ → List ℕ
-unfolding decimal
-commaEach [] = []
-commaEach (n ∷ ns) = ascii "," ++ decimal n ++ commaEach ns
-
--- numbers in decimal, with commas between them
-unfoldable pub commaList : List ℕ → List ℕ
-unfolding decimal commaEach
-commaList [] = []
-commaList (n ∷ ns) = decimal n ++ commaEach ns
-
--- a line `key=value`, "ended by byte 10"
-unfoldable pub line : List ℕ → List ℕ → List ℕ
-line key value = key ++ ascii "=" ++ value ++ ascii "\n"
+use Rattle.text.specs.Text.{ascii, decimal, commaList, line}
 
 -- "The lines give the record's length, the number of pieces, their ends, the strict ends, the longest piece's length, its first place, and the
 -- counts of bands 1 to 13."

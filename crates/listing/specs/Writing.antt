@@ -1,9 +1,8 @@
--- What the functions that write text ask and promise. No call's promise cites this file.
+-- What the functions that write a listing ask and promise. No call's promise cites this file.
 use mathlib.Core.Path.{_≡_}
 use mathlib.Core.List.{List, [], _∷_}
 use Prim.Native.Nat.{ℕ, _+_, _*_, _≤_}
 use lib.ListN.{length}
-use lib.Seq.{sets}
 use Rattle.words.specs.Words.{mostLetters}
 use Rattle.words.specs.Factorizations.{icflEnds, cflInEnds}
 use Rattle.checks.specs.Lines.{tried, recordLines}
@@ -11,15 +10,6 @@ use Rattle.checks.specs.declared.Checked.the-variants.{Passed}
 use Rattle.checks.specs.declared.Counted.{Counted}
 use Rattle.reading.specs.declared.summary.Summary.{Summary}
 use Rattle.listing.specs.Listing.{linesOf}
-
--- vs fits into out from entry at on
-pub record FitsAt (at : ℕ) (vs out : List ℕ) : Type 0 where
-  pub inside : at + length vs ≤ length out
-
--- vs stands in out from entry at on, and r is the entry after it
-pub record WroteAt (at : ℕ) (vs out : List ℕ) (r : ℕ) (out′ : List ℕ) : Type 0 where
-  pub place : r ≡ at + length vs
-  pub content : out′ ≡ sets out at vs
 
 -- how long texts are together
 abbrev pub total : List (List ℕ) → ℕ

@@ -1,12 +1,13 @@
 //! Paper 01's listing of a record, written into a lent buffer.
-mod text;
+mod lines;
 
 use checks::Checked;
 use checks::Counted;
 use checks::MOST;
 ghost use mathlib.Core.Path.{_≡_};
+ghost use Rattle.text.specs.Writing.{WroteAt};
 ghost use Rattle.listing.specs.Listing.{listingOf, Listed};
-ghost use Rattle.listing.specs.Writing.{WroteAt, CutLists, ListingRoom, entriesOf};
+ghost use Rattle.listing.specs.Writing.{CutLists, ListingRoom, entriesOf};
 
 /// The entries of a work buffer that every record can be cut in.
 pub const WORK: usize = 3 * MOST;
@@ -20,7 +21,7 @@ fn write_result(word: &[u8], ends: &[u16], strict: &[u16], out: &mut [u8]) -> us
     ensures { λ r. ⌜ WroteAt 0 (listingOf (now (word .entry))) (now (out .entry)) r (now (out .exit)) ⌝ }
 {
     let summary = reading::summarize(word, ends);
-    text::write_lines(word.len() as u16, ends, strict, summary, out)
+    lines::write_lines(word.len() as u16, ends, strict, summary, out)
 }
 
 // How many entries a cut wrote; 0 beside a refusal.
@@ -47,7 +48,7 @@ fn list_word(
 {
     let admitted = checks::check_record(word);
     let Checked::Passed = admitted else {
-        return text::write_refusal(admitted.number(), out);
+        return lines::write_refusal(admitted.number(), out);
     };
     let pieces = entries_of(icfl::icfl(word, work, ends));
     let stricts = entries_of(cfl::cfl_in(word, strict));

@@ -1,8 +1,8 @@
 -- The digits that are left, stored in the buffer as it is, make the number stored in the buffer as it was.
 use borrow.Author.Needs.{needs}
-use Rattle.listing.proofs.Texts.{Spelling, spell-start, spell-step, spell-end}
-use Rattle.listing.proofs.text.write_decimal.Statement.{statement}
-use Rattle.listing.proofs.text.write_decimal.Tie as tie
+use Rattle.text.proofs.Texts.{Spelling, spell-start, spell-step, spell-end}
+use Rattle.text.proofs.write_decimal.Statement.{statement}
+use Rattle.text.proofs.write_decimal.Tie as tie
 
 abbrev Inv-loop : tie.InvT-loop
 Inv-loop number out₀ at count left₀ rest₀ out left rest = Spelling number out₀ out at left rest

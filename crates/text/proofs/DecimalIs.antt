@@ -7,8 +7,8 @@ use native.Mathlib.Decide.{decLt}
 use native.Mathlib.Omega.{arith}
 use lib.ListN.{length, getD, length-append, List·getD-append}
 use lib.Seq.{getD-at}
-use Rattle.listing.specs.Listing.{decimal}
-use Rattle.listing.proofs.Decimals.{decimal-induct}
+use Rattle.text.specs.Text.{decimal}
+use Rattle.text.proofs.Decimals.{decimal-induct}
 
 -- what digits are worth, from the left, after digits that are worth a
 unfoldable pub worthAfter : ℕ → List ℕ → ℕ

@@ -1,8 +1,8 @@
 -- A number is a list of one.
 use borrow.Author.Needs.{needs}
-use Rattle.listing.proofs.Texts.{list-one}
-use Rattle.listing.proofs.text.write_number_line.Statement.{statement}
-use Rattle.listing.proofs.text.write_number_line.Tie as tie
+use Rattle.text.proofs.Texts.{list-one}
+use Rattle.text.proofs.write_number_line.Statement.{statement}
+use Rattle.text.proofs.write_number_line.Tie as tie
 
 slice-aggregate-write-list-line : tie.Need-slice-aggregate-write-list-line
 slice-aggregate-write-list-line c = search needs

@@ -3,11 +3,11 @@ use borrow.Author.Needs.{needs}
 use native.Mathlib.Omega.{arith}
 use Prim.Native.Nat.{_+_, _≤_}
 use lib.ListN.{length, length-set}
-use Rattle.listing.specs.Listing.{commaList}
-use Rattle.listing.proofs.Stores.{wrote-long}
-use Rattle.listing.proofs.Texts.{line-length, line-wrote}
-use Rattle.listing.proofs.text.write_list_line.Statement.{statement}
-use Rattle.listing.proofs.text.write_list_line.Tie as tie
+use Rattle.text.specs.Text.{commaList}
+use Rattle.text.proofs.Stores.{wrote-long}
+use Rattle.text.proofs.Texts.{line-length, line-wrote}
+use Rattle.text.proofs.write_list_line.Statement.{statement}
+use Rattle.text.proofs.write_list_line.Tie as tie
 
 room-at : (c : tie.Start) → (let a = c .args in a .at + (length (a .key .now) + length (commaList (a .numbers .now)) + 2) ≤ length (a .out .now))
 room-at c = omega (arith, c .pre, line-length (c .args .key .now) (commaList (c .args .numbers .now)))

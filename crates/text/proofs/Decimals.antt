@@ -8,7 +8,7 @@ use native.Mathlib.Decide.{decLt}
 use native.Mathlib.Omega.{arith}
 use lib.ListN.{length, length-append}
 use borrow.Author.Tests.{lt-ltb, le-ltb}
-use Rattle.listing.specs.Listing.{decimalWithin, decimal}
+use Rattle.text.specs.Text.{decimalWithin, decimal}
 
 within-small : (k n : ℕ) → n < 10 → decimalWithin (suc k) n ≡ (48 + n) ∷ []
 unfolding decimalWithin

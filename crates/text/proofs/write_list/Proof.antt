@@ -5,11 +5,11 @@ use mathlib.Core.List.{List}
 use Prim.Native.Nat.{ℕ, suc, _+_, _-_, _≤_}
 use native.Mathlib.Omega.{arith}
 use lib.ListN.{length, drop, getD, length-set}
-use Rattle.listing.specs.Listing.{decimal, commaEach}
-use Rattle.listing.proofs.Stores.{wrote-then, wrote-long, Left, left-all, left-byte, left-text, left-none}
-use Rattle.listing.proofs.Texts.{list-none, comma-first, first-length, comma-at, comma-length, comma-end}
-use Rattle.listing.proofs.text.write_list.Statement.{statement}
-use Rattle.listing.proofs.text.write_list.Tie as tie
+use Rattle.text.specs.Text.{decimal, commaEach}
+use Rattle.text.proofs.Stores.{wrote-then, wrote-long, Left, left-all, left-byte, left-text, left-none}
+use Rattle.text.proofs.Texts.{list-none, comma-first, first-length, comma-at, comma-length, comma-end}
+use Rattle.text.proofs.write_list.Statement.{statement}
+use Rattle.text.proofs.write_list.Tie as tie
 
 abbrev Inv-loop : tie.InvT-loop
 Inv-loop numbers out₀ at place₀ i₀ out place i =

@@ -3,11 +3,11 @@ use borrow.Author.Needs.{needs}
 use native.Mathlib.Omega.{arith}
 use Prim.Native.Nat.{_+_, _≤_}
 use lib.ListN.{length, drop}
+use Rattle.text.proofs.Stores.{wrote-long, wrote-none, wrote-then}
 use Rattle.listing.specs.Listing.{linesOf, sevenLines}
 use Rattle.listing.specs.Writing.{total}
-use Rattle.listing.proofs.Stores.{wrote-long, wrote-none, wrote-then}
-use Rattle.listing.proofs.text.write_lines.Statement.{statement}
-use Rattle.listing.proofs.text.write_lines.Tie as tie
+use Rattle.listing.proofs.lines.write_lines.Statement.{statement}
+use Rattle.listing.proofs.lines.write_lines.Tie as tie
 
 -- the place after the first line, and the call's start, from the place after the fifth line
 abbrev first : tie.After-write-number-line3 → tie.After-write-number-line

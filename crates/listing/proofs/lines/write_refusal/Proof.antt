@@ -1,7 +1,7 @@
 -- The line is a number line whose key is `refused`.
 use borrow.Author.Needs.{needs}
-use Rattle.listing.proofs.text.write_refusal.Statement.{statement}
-use Rattle.listing.proofs.text.write_refusal.Tie as tie
+use Rattle.listing.proofs.lines.write_refusal.Statement.{statement}
+use Rattle.listing.proofs.lines.write_refusal.Tie as tie
 
 slice-aggregate-write-number-line : tie.Need-slice-aggregate-write-number-line
 slice-aggregate-write-number-line c = search needs

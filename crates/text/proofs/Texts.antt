@@ -7,10 +7,10 @@ use native.Mathlib.Numerals.{add-one}
 use native.Mathlib.Omega.{arith}
 use lib.ListN.{length, drop, getD, set, length-set, length-append, drop-of-length-le}
 use lib.Seq.{sets, drop-cons}
-use Rattle.listing.specs.Listing.{decimal, commaEach, commaList, line}
-use Rattle.listing.specs.Writing.{WroteAt}
-use Rattle.listing.proofs.Stores.{sets-last, wrote-none, wrote-one, wrote-then, Left, left-byte}
-use Rattle.listing.proofs.Decimals.{decimal-small, length-large, digits, length-digits, decimal-digits}
+use Rattle.text.specs.Text.{decimal, commaEach, commaList, line}
+use Rattle.text.specs.Writing.{WroteAt}
+use Rattle.text.proofs.Stores.{sets-last, wrote-none, wrote-one, wrote-then, Left, left-byte}
+use Rattle.text.proofs.Decimals.{decimal-small, length-large, digits, length-digits, decimal-digits}
 
 -- ---- the number of digits
 

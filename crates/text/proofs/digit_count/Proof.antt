@@ -1,8 +1,8 @@
 -- A turn takes off one digit and counts it; the last one is counted at the start.
 use borrow.Author.Needs.{needs}
-use Rattle.listing.proofs.Texts.{Counting, count-start, count-step, count-end}
-use Rattle.listing.proofs.text.digit_count.Statement.{statement}
-use Rattle.listing.proofs.text.digit_count.Tie as tie
+use Rattle.text.proofs.Texts.{Counting, count-start, count-step, count-end}
+use Rattle.text.proofs.digit_count.Statement.{statement}
+use Rattle.text.proofs.digit_count.Tie as tie
 
 abbrev Inv-loop : tie.InvT-loop
 Inv-loop number count₀ rest₀ count rest = Counting number count rest

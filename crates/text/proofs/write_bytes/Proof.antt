@@ -3,10 +3,10 @@ use borrow.Author.Needs.{needs}
 use native.Mathlib.Nat.{add-zero}
 use Prim.Native.Nat.{_+_, _-_}
 use lib.ListN.{length, drop, drop-of-length-le}
-use Rattle.listing.proofs.Stores.{Left, left-all, left-none}
-use Rattle.listing.proofs.Texts.{copy-step}
-use Rattle.listing.proofs.text.write_bytes.Statement.{statement}
-use Rattle.listing.proofs.text.write_bytes.Tie as tie
+use Rattle.text.proofs.Stores.{Left, left-all, left-none}
+use Rattle.text.proofs.Texts.{copy-step}
+use Rattle.text.proofs.write_bytes.Statement.{statement}
+use Rattle.text.proofs.write_bytes.Tie as tie
 
 abbrev Inv-loop : tie.InvT-loop
 Inv-loop bytes out₀ at i₀ out i = Left at bytes out₀ (at + i) (drop i bytes) out

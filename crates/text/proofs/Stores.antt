@@ -9,7 +9,7 @@ use native.Mathlib.Omega.{arith}
 use lib.ListN.{length, set, length-set, length-append}
 use lib.Seq.{sets, sets-eq, length-sets, set-comm}
 use Rattle.buffers.specs.Buffers.{written}
-use Rattle.listing.specs.Writing.{WroteAt}
+use Rattle.text.specs.Writing.{WroteAt}
 
 sets-append : (vs l : List ℕ) (i : ℕ) (ws : List ℕ) → sets l i (vs ++ ws) ≡ sets (sets l i vs) (i + length vs) ws
 sets-append [] l i ws = rw (add-zero i)

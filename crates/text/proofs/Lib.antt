@@ -1,0 +1,4 @@
+pub mod Stores
+pub mod Decimals
+pub mod DecimalIs
+pub mod Texts
