@@ -64,7 +64,7 @@ fn write_list(numbers: &[u16], out: &mut [u8], at: usize) -> usize
     place
 }
 
-/// A line whose value is a list of numbers.
+/// The line `key=` with the numbers in decimal, commas between them, ended by byte 10. It must fit into `out` from `at` on.
 pub fn write_list_line(key: &[u8], numbers: &[u16], out: &mut [u8], at: usize) -> usize
     requires { ⌜ FitsAt at (line (now key) (commaList (now numbers))) (now out) ⌝ }
     ensures { λ r. ⌜ WroteAt at (line (now (key .entry)) (commaList (now (numbers .entry)))) (now (out .entry)) r (now (out .exit)) ⌝ }
@@ -76,7 +76,7 @@ pub fn write_list_line(key: &[u8], numbers: &[u16], out: &mut [u8], at: usize) -
     end + 1
 }
 
-/// A line whose value is a number.
+/// The line `key=` with the number in decimal, ended by byte 10. It must fit into `out` from `at` on.
 pub fn write_number_line(key: &[u8], number: u16, out: &mut [u8], at: usize) -> usize
     requires { ⌜ FitsAt at (line (now key) (decimal number)) (now out) ⌝ }
     ensures { λ r. ⌜ WroteAt at (line (now (key .entry)) (decimal number)) (now (out .entry)) r (now (out .exit)) ⌝ }
