@@ -3,6 +3,7 @@
 mod inputs;
 
 use inputs::{Input, INPUTS};
+use metsroeb::Summary;
 use metsroeb_tests::peer;
 use std::hint::black_box;
 use std::time::Instant;
@@ -68,16 +69,19 @@ macro_rules! calls_of {
             ("`metsroeb_factor`, the last of the strict cut", |case, _| {
                 black_box($of::factor_at(&case.record, &case.strict_ends, case.strict_ends.len() - 1)).ok();
             }),
-            ("`metsroeb_summarize`, of the strict cut", |case, _| {
-                // The numbers are read, as those of the other calls; the bands are not copied out of the answer.
+            ("`metsroeb_summarize`, of the strict cut, until count, longest and from are read", |case, _| {
                 black_box($of::summarize(&case.record, &case.strict_ends).map(|all| (all.count, all.longest, all.from))).ok();
+            }),
+            ("`metsroeb_summarize`, of the strict cut, until the bands are read too", |case, _| {
+                let read = |all: Summary| (all.count, all.longest, all.from, all.bands.iter().sum::<u16>());
+                black_box($of::summarize(&case.record, &case.strict_ends).map(read)).ok();
             }),
         ]
     };
 }
 
-const VERIFIED: [(&str, Call); 8] = calls_of!(metsroeb);
-const PEER: [(&str, Call); 8] = calls_of!(peer);
+const VERIFIED: [(&str, Call); 9] = calls_of!(metsroeb);
+const PEER: [(&str, Call); 9] = calls_of!(peer);
 
 /// Nanoseconds of one call.
 fn batch(call: Call, (cases, lent): &mut (Vec<Case>, Buffers), repeats: usize) -> f64 {
