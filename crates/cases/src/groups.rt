@@ -44,45 +44,41 @@ fn write_record(group: Group, i: usize, word: &mut [u8], run: &mut Run) -> usize
     }
 }
 
-// The first cases of one call.
-fn on_call(call: Call, limits: bool, many: usize, word: &[u8], run: &mut Run) {
-    let mut list = [0u16; ENTRIES];
-    let count = naive::answer(call, word, &mut list);
-    try_cases(call, limits, many, word, front(&list, count), run);
-}
-
-// The reader and the summary on a list of ends.
+// What goes by the ends of the piece cut or of the strict cut: the reader and the summary.
 fn on_ends(word: &[u8], ends: &[u16], run: &mut Run) {
     try_cases(Call::Part, false, ends.len(), word, ends, run);
     try_cases(Call::Summary, false, 1, word, ends, run);
 }
 
-// The strict cut, and what goes by its ends.
-fn on_strict(word: &[u8], run: &mut Run) {
-    let mut list = [0u16; ENTRIES];
-    let count = naive::answer(Call::Strict, word, &mut list);
-    let ends = front(&list, count);
-    try_cases(Call::Strict, false, 1, word, ends, run);
-    on_ends(word, ends, run);
-}
-
-// The piece cut, and what goes by its ends: the comparison too, which has 8 ranges of its own and 4 of whole pieces.
-fn on_pieces(word: &[u8], run: &mut Run) {
-    let mut list = [0u16; ENTRIES];
-    let count = naive::answer(Call::Pieces, word, &mut list);
-    let ends = front(&list, count);
-    try_cases(Call::Pieces, false, 1, word, ends, run);
+// What goes by the ends of the piece cut: the comparison too, which has 8 ranges of its own and 4 of whole pieces.
+fn on_pieces(word: &[u8], ends: &[u16], run: &mut Run) {
     on_ends(word, ends, run);
     try_cases(Call::Compare, false, 12, word, ends, run);
     try_cases(Call::Common, false, 4, word, ends, run);
+}
+
+// The first cases of one call, and what goes by its ends.
+fn on_call(call: Call, limits: bool, many: usize, word: &[u8], run: &mut Run) {
+    let mut list = [0u16; ENTRIES];
+    let count = naive::answer(call, word, &mut list);
+    let ends = front(&list, count);
+    try_cases(call, limits, many, word, ends, run);
+    if limits {
+        return;
+    }
+    match call {
+        Call::Strict => on_ends(word, ends, run),
+        Call::Pieces => on_pieces(word, ends, run),
+        _ => {}
+    }
 }
 
 // All calls.
 fn on_record(word: &[u8], run: &mut Run) {
     on_call(Call::Test, false, 1, word, run);
     on_call(Call::Starts, false, 1, word, run);
-    on_strict(word, run);
-    on_pieces(word, run);
+    on_call(Call::Strict, false, 1, word, run);
+    on_call(Call::Pieces, false, 1, word, run);
 }
 
 // The calls that are lent buffers, at the boundaries of their refusals.

@@ -1,5 +1,6 @@
-//! Runs the calls on many records and compares what they answer, and every entry of the buffers that they are lent, with the second implementation of
-//! `naive`. Prints for each call on how many inputs the two agreed and disagreed; then the same for inputs at the boundaries of the refusals.
+//! Prints what paper 01 says of single records, as the calls answer it. Then runs the calls on many records and compares what they answer, and every
+//! entry of the buffers that they are lent, with the second implementation of `naive`: prints for each call on how many inputs the two agreed and
+//! disagreed, then the same for inputs at the boundaries of the refusals.
 mod records; // the records: all short ones, random ones, long ones
 mod groups; // the groups of records, and the calls that are made on each
 mod printing; // the lines that are printed
