@@ -35,28 +35,25 @@ fn print_answer(name: &[u8], call: Call, word: &[u8], entries: usize) {
     }
 }
 
-// A record with its piece ends and its strict ends.
-fn print_cuts(name: &[u8], word: &[u8]) {
-    io::write_all(STDOUT_FILENO, name);
+// A record that is an argument of the program, with its piece ends and its strict ends.
+fn print_cuts(argument: usize) {
+    let mut text = io::buffer();
+    let length = os::arg(argument, &mut text);
+    let word = &text[..length];
     io::write_all(STDOUT_FILENO, word);
     print_answer(b" pieces=", Call::Pieces, word, ENTRIES);
     print_answer(b" strict=", Call::Strict, word, ENTRIES);
     io::write_all(STDOUT_FILENO, b"\n");
 }
 
-// The records A to K.
+// The records A to K: the file `args` has them.
 fn print_table() {
-    print_cuts(b"A ", b"a");
-    print_cuts(b"B ", b"aaa");
-    print_cuts(b"C ", b"ab");
-    print_cuts(b"D ", b"ba");
-    print_cuts(b"E ", b"abc");
-    print_cuts(b"F ", b"baba");
-    print_cuts(b"G ", b"bbabbabbb");
-    print_cuts(b"H ", b"cbabacbac");
-    print_cuts(b"I ", b"cbabacaacbabacbac");
-    print_cuts(b"J ", b"dabadabdabdadac");
-    print_cuts(b"K ", b"dabdadacddbdc");
+    let count = os::arg_count();
+    let mut argument: usize = 1;
+    while argument < count {
+        print_cuts(argument);
+        argument += 1;
+    }
 }
 
 // The sign of two starts in a range; none of these is refused.
