@@ -1,2 +1,1 @@
-pub mod FourLaws
 pub mod ComparisonLaws

@@ -1,6 +1,6 @@
 //! The sign of two words in the inverse order.
-use super::common::common_length;
-use super::common::shorter;
+use common::common_length;
+use common::shorter;
 ghost use Rattle.words.specs.orders.WordSigns.{SignOfWords};
 
 /// −1 if x comes before y in the inverse order, 0 if they are the same, +1 otherwise.

@@ -20,8 +20,8 @@ fn comes_before(u: &[u8], v: &[u8]) -> bool
     if b != a {
         return b < a;
     }
-    let l = compare::common_length(u, v);
-    if l < compare::shorter(u.len(), v.len()) {
+    let l = common::common_length(u, v);
+    if l < common::shorter(u.len(), v.len()) {
         return v[l] < u[l];
     }
     u.len() < v.len()

@@ -62,5 +62,5 @@ fn random_part<'a>(word: &'a [u8], run: &mut Run) -> &'a [u8] {
 pub fn common_agrees(word: &[u8], run: &mut Run) -> bool {
     let x = random_part(word, run);
     let y = random_part(word, run);
-    compare::common_length(x, y) == naive::common(x, y)
+    common::common_length(x, y) == naive::common(x, y)
 }

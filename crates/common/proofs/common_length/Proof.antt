@@ -4,8 +4,8 @@ use mathlib.Core.Path.{_≡_}
 use Prim.Native.Nat.{_-_}
 use native.Mathlib.Omega.{arith}
 use Rattle.words.specs.orders.CommonLength.{Matched, matched-more, agree-unique}
-use Rattle.compare.proofs.common.common_length.Statement.{statement}
-use Rattle.compare.proofs.common.common_length.Tie as tie
+use Rattle.common.proofs.common_length.Statement.{statement}
+use Rattle.common.proofs.common_length.Tie as tie
 
 abbrev Inv-loop : tie.InvT-loop
 Inv-loop x y most l₀ l = Matched x y l

@@ -4,7 +4,7 @@ ghost use Prim.Native.Nat.{_+_, min};
 ghost use Rattle.words.specs.orders.Decisions.{Decides};
 ghost use Rattle.words.specs.Words.{commonLength};
 ghost use Rattle.words.specs.orders.CommonLength.{Matched};
-ghost use Rattle.compare.specs.Steps.{BothHave, FourEqual};
+ghost use Rattle.common.specs.Steps.{BothHave, FourEqual};
 
 /// The smaller of two lengths.
 pub fn shorter(m: usize, n: usize) -> usize

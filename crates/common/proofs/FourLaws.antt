@@ -7,7 +7,7 @@ use lib.ListN.{getD}
 use lib.Dec.{eqb}
 use lib.Bits.{bitOr, bitXor, and-le-l, and-le-r, or-add-and, xor-add-and, xor-self}
 use Rattle.words.specs.orders.Decisions.{Decides, eqb-test, decides-map}
-use Rattle.compare.specs.Steps.{BothHave, FourEqual}
+use Rattle.common.specs.Steps.{BothHave, FourEqual}
 use Rattle.words.specs.orders.CommonLength.{Matched, matched-more}
 
 or-none : (a b : ℕ) → bitOr a b ≡ 0 → (a ≡ 0) × (b ≡ 0)
