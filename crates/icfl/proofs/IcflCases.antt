@@ -17,8 +17,9 @@ use Rattle.checks.specs.declared.Checked.the-variants.{Passed}
 use Rattle.checks.specs.declared.Counted.{Counted}
 use Rattle.checks.proofs.LineLaws.{IsRefused, refused, refused-first, passed-first, unmet, unless-but, filled-refused, filled-done}
 use Rattle.checks.proofs.RecordLaws.{accepted}
-use Rattle.icfl.specs.declared.Ends.{Ends}
-use Rattle.icfl.specs.Icfl.{icflAdmission, icflLines, workAfter, IcflDone, CutRoom, EndsFound}
+use Rattle.breaks.specs.declared.Ends.{Ends}
+use Rattle.icfl.specs.Icfl.{icflAdmission, icflLines, workAfter, IcflDone}
+use Rattle.breaks.specs.Cutting.{CutRoom, EndsFound}
 
 module _ (w work buffer : List ℕ) where
   -- no line before 4 has its number, so the work buffer is cleared just where the admission passes

@@ -1,4 +1,1 @@
-pub mod Finding
-pub mod Joining
-pub mod Gathering
 pub mod IcflCases

@@ -9,7 +9,8 @@ use Rattle.checks.specs.Lines.{tried}
 use Rattle.checks.specs.declared.Checked.the-variants.{Passed}
 use Rattle.checks.proofs.LineLaws.{passed}
 use Rattle.checks.proofs.RecordLaws.{enough}
-use Rattle.icfl.specs.Icfl.{icflAdmission, CutRoom}
+use Rattle.icfl.specs.Icfl.{icflAdmission}
+use Rattle.breaks.specs.Cutting.{CutRoom}
 use Rattle.icfl.proofs.IcflCases.{admission-refused, cut-room, result-refused, ends-written}
 use Rattle.icfl.proofs.icfl.Statement.{statement}
 use Rattle.icfl.proofs.icfl.Tie as tie

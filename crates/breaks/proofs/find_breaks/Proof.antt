@@ -5,9 +5,9 @@ use native.Mathlib.Omega.{arith}
 use lib.ListN.{length, drop, length-set, length-drop}
 use Rattle.words.specs.Words.{mostLetters}
 use Rattle.extension.proofs.VerdictLaws.{Fails}
-use Rattle.icfl.proofs.Finding.{Finding, find-starts, find-fits, find-ends, found, find-on}
-use Rattle.icfl.proofs.find_breaks.Statement.{statement}
-use Rattle.icfl.proofs.find_breaks.Tie as tie
+use Rattle.breaks.proofs.Finding.{Finding, find-starts, find-fits, find-ends, found, find-on}
+use Rattle.breaks.proofs.find_breaks.Statement.{statement}
+use Rattle.breaks.proofs.find_breaks.Tie as tie
 
 abbrev Inv-loop : tie.InvT-loop
 Inv-loop word work₀ n from₀ count₀ work from count = Finding word work₀ work n from count

@@ -9,7 +9,7 @@ use lib.Seq.{drop-cons, take-take, take-set-le, set-split, drop-at, length-take-
 use lib.Dec.{leb}
 use Rattle.words.specs.orders.Decisions.{Decides, holds, fails, leb-test}
 use Rattle.words.specs.scan.Breaks.{joinEnds, foldEnds}
-use Rattle.icfl.specs.Icfl.{Stacked, Joined}
+use Rattle.breaks.specs.Cutting.{Stacked, Joined}
 
 -- ---- joinEnds and foldEnds
 

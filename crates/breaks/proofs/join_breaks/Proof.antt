@@ -3,9 +3,9 @@ use borrow.Author.Needs.{needs}
 use Prim.Native.Nat.{_+_, _-_, _*_, _<_}
 use native.Mathlib.Omega.{arith}
 use lib.ListN.{length}
-use Rattle.icfl.proofs.Joining.{Joining, join-starts, top-inside, joined-on, kept-on, join-ends}
-use Rattle.icfl.proofs.join_breaks.Statement.{statement}
-use Rattle.icfl.proofs.join_breaks.Tie as tie
+use Rattle.breaks.proofs.Joining.{Joining, join-starts, top-inside, joined-on, kept-on, join-ends}
+use Rattle.breaks.proofs.join_breaks.Statement.{statement}
+use Rattle.breaks.proofs.join_breaks.Tie as tie
 
 abbrev Inv-loop : tie.InvT-loop
 Inv-loop stack₀ count k₀ top₀ stack k top = Joining stack₀ stack count k top

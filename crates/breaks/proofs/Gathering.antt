@@ -9,7 +9,7 @@ use lib.Seq.{take-set-le, drop-set-add, drop-set-lt, drop-drop, take-at, drop-ap
 use Rattle.buffers.proofs.PartLaws.{rest, rest-is, rest-back}
 use Rattle.words.specs.Factorizations.{icflEnds}
 use Rattle.words.specs.scan.Breaks.{foldEnds, breaks-ends}
-use Rattle.icfl.specs.Icfl.{CutRoom, BreaksFound, Stacked, Joined, EndsFound}
+use Rattle.breaks.specs.Cutting.{CutRoom, BreaksFound, Stacked, Joined, EndsFound}
 
 module _ (w work work₁ : List ℕ) (count : ℕ) (r : CutRoom w work) (b : BreaksFound w work count work₁) (long : length work₁ ≡ length work) where
   abbrev pub n : ℕ

@@ -3,9 +3,9 @@ use borrow.Author.Needs.{needs}
 use Prim.Native.Nat.{_*_, _≤_}
 use native.Mathlib.Omega.{arith}
 use lib.ListN.{length, length-set}
-use Rattle.icfl.proofs.Gathering.{stacked, long-kept, ends-found}
-use Rattle.icfl.proofs.find_ends.Statement.{statement}
-use Rattle.icfl.proofs.find_ends.Tie as tie
+use Rattle.breaks.proofs.Gathering.{stacked, long-kept, ends-found}
+use Rattle.breaks.proofs.find_ends.Statement.{statement}
+use Rattle.breaks.proofs.find_ends.Tie as tie
 
 -- the word's letters, and twice as many entries after them
 wide-at : (c : tie.After-find-breaks) → 3 * length (c .before .before .before .before .args .word .now) ≤ length (c .find-breaks .last .1 .0)

@@ -15,7 +15,7 @@ use Rattle.extension.specs.declared.Extension.{Extension}
 use Rattle.extension.specs.Extension.{TestRoom, Verdict}
 use Rattle.extension.proofs.Extension.{the-type}
 use Rattle.extension.proofs.VerdictLaws.{Fails, fails-told, holds-told}
-use Rattle.icfl.specs.Icfl.{CutRoom, BreaksFound}
+use Rattle.breaks.specs.Cutting.{CutRoom, BreaksFound}
 
 -- ---- the stack
 
