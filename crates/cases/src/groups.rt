@@ -1,15 +1,15 @@
 //! The groups of records, and the calls that are made on each.
-use super::records::length_at;
-use super::records::random_record;
-use super::records::shape_at;
 use naive::Call;
 use naive::ENTRIES;
 use naive::front;
 use naive::plus;
-use trials::Run;
-use trials::spell;
+use samples::LISTS;
+use samples::Run;
+use samples::random_record;
+use samples::shaped_record;
+use samples::spell;
+use trials::RANGES;
 use trials::try_cases;
-use trials::write;
 
 /// Records of a kind, with the calls that are made on them.
 pub enum Group {
@@ -27,20 +27,14 @@ pub enum Group {
     Lists,
 }
 
-// One of eight shapes of a length at the boundaries.
-fn shaped(word: &mut [u8], length: usize, shape: usize, run: &mut Run) -> usize {
-    let n = length_at(length);
-    write(word, n, shape_at(shape, n), run)
-}
-
 // Writes record i of a group. Answers its length.
 fn write_record(group: Group, i: usize, word: &mut [u8], run: &mut Run) -> usize {
     match group {
         Group::Words { letters } => spell(word, letters, plus(i, 1)),
         Group::Random { most } => random_record(word, most, run),
-        Group::Long => shaped(word, 4 + i % 3, i / 3, run),
-        Group::Lent => shaped(word, i % 7, i / 7, run),
-        _ => shaped(word, i, 1, run),
+        Group::Long => shaped_record(word, 4 + i % 3, i / 3, run),
+        Group::Lent => shaped_record(word, i % 7, i / 7, run),
+        _ => shaped_record(word, i, 1, run),
     }
 }
 
@@ -93,10 +87,10 @@ fn on_lent(word: &[u8], run: &mut Run) {
 fn on_word(group: Group, word: &[u8], run: &mut Run) {
     match group {
         Group::Lent => on_lent(word, run),
-        Group::Ranges => on_call(Call::Compare, true, trials::RANGES, word, run),
+        Group::Ranges => on_call(Call::Compare, true, RANGES, word, run),
         Group::Lists => {
-            on_call(Call::Part, true, 5 * trials::LISTS, word, run);
-            on_call(Call::Summary, true, trials::LISTS, word, run);
+            on_call(Call::Part, true, 5 * LISTS, word, run);
+            on_call(Call::Summary, true, LISTS, word, run);
         }
         _ => on_record(word, run),
     }

@@ -1,18 +1,14 @@
-//! Prints what paper 01 says of single records, as the calls answer it. Then runs the calls on many records and compares what they answer, and every
-//! entry of the buffers that they are lent, with the second implementation of `naive`: prints for each call on how many inputs the two agreed and
-//! disagreed, then the same for inputs at the boundaries of the refusals.
-mod records; // the records: all short ones, random ones, long ones
+//! Runs the calls on many records and compares what they answer, and every entry of the buffers that they are lent, with the second implementation of
+//! `naive`: prints for each call on how many inputs the two agreed and disagreed, then the same for inputs at the boundaries of the refusals.
 mod groups; // the groups of records, and the calls that are made on each
 mod printing; // the lines that are printed
-mod known; // what paper 01 says of single records
 
 use groups::Group;
 use groups::try_group;
-use trials::Run;
-use trials::STATE;
+use samples::Run;
+use samples::STATE;
 
 fn main() {
-    known::print_known();
     let mut run: Run = [0; STATE + 1];
     run[STATE] = 20011;
     try_group(Group::Words { letters: 2 }, 1022, &mut run);

@@ -1,23 +1,10 @@
 //! The lines of the program: for each call on how many inputs it agreed with the second implementation, and on how many not.
 use libc::STDOUT_FILENO;
 use naive::Call;
-use naive::entry;
 use naive::plus;
-use trials::Run;
-use trials::STATE;
-use trials::place;
-
-/// Numbers with commas between them.
-pub fn print_list(list: &[u16]) {
-    let mut i: usize = 0;
-    while i < list.len() {
-        if 0 < i {
-            io::write_all(STDOUT_FILENO, b",");
-        }
-        io::print_decimal(STDOUT_FILENO, entry(list, i) as u64);
-        i += 1;
-    }
-}
+use samples::Run;
+use samples::STATE;
+use samples::place;
 
 fn print_count(run: &Run, at: usize) {
     if at < STATE {

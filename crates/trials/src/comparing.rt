@@ -1,10 +1,10 @@
 //! The comparison, and how far two words agree.
-use super::numbers::about;
-use super::run::Run;
-use super::run::draw;
 use compare::Comparison;
 use naive::minus;
 use naive::plus;
+use samples::Run;
+use samples::about;
+use samples::draw;
 
 // Whether the comparison answers as the second implementation.
 fn comparison_is(word: &[u8], first: usize, end: usize, start: usize, other: usize) -> bool {

@@ -2,9 +2,9 @@
 use super::comparing;
 use super::lending;
 use super::parting;
-use super::run::Run;
-use super::run::note;
 use naive::Call;
+use samples::Run;
+use samples::note;
 
 // Whether the call and the second implementation agree on case `code`.
 fn agrees(call: Call, word: &[u8], list: &[u16], code: usize, run: &mut Run) -> bool {

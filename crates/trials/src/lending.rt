@@ -1,7 +1,4 @@
 //! The calls that are lent buffers, with every entry of these: the test, both cuts, the start table.
-use super::buffers::fill;
-use super::buffers::is_left;
-use super::numbers::about;
 use checks::Counted;
 use extension::Extension;
 use naive::Call;
@@ -10,6 +7,9 @@ use naive::front;
 use naive::plus;
 use naive::store_three;
 use naive::work_needed;
+use samples::about;
+use samples::fill;
+use samples::is_left;
 
 // What the buffers hold before a call begins above these; no answer is so great.
 const WORK_SALT: usize = 20000;
@@ -45,8 +45,8 @@ fn call_with(call: Call, word: &[u8], work: &mut [u16], list: &mut [u16]) -> Cou
     }
 }
 
-/// The call, lent `room` work entries and `space` result entries; 99 where there are not so many.
-pub fn lend(
+// The call, lent `room` work entries and `space` result entries; 99 where there are not so many.
+fn lend(
     call: Call,
     word: &[u8],
     work: &mut [u16],

@@ -1,11 +1,11 @@
 //! The reader and the summary.
-use super::numbers::about;
-use super::numbers::write_list;
 use naive::ENTRIES;
 use naive::entry;
 use naive::front;
 use naive::minus;
 use naive::tail;
+use samples::about;
+use samples::write_list;
 
 /// Whether the reader gives the part, or the refusal beside an empty one.
 pub fn part_agrees(word: &[u8], ends: &[u16], number: usize) -> bool {

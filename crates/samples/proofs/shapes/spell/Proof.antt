@@ -3,8 +3,8 @@ use borrow.Author.Needs.{needs}
 use mathlib.Core.Path.{_≡_}
 use Prim.Native.Nat.{_-_}
 use lib.ListN.{length}
-use Rattle.trials.proofs.shapes.spell.Statement.{statement}
-use Rattle.trials.proofs.shapes.spell.Tie as tie
+use Rattle.samples.proofs.shapes.spell.Statement.{statement}
+use Rattle.samples.proofs.shapes.spell.Tie as tie
 
 abbrev Inv-loop : tie.InvT-loop
 Inv-loop word₀ letters number rest₀ i₀ word rest i = length word ≡ length word₀

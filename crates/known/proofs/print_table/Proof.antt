@@ -1,8 +1,8 @@
 -- Safe and ending: the loop's measure is what is left.
 use borrow.Author.Needs.{needs}
 use Prim.Native.Nat.{_-_}
-use Rattle.cases.proofs.known.print_table.Statement.{statement}
-use Rattle.cases.proofs.known.print_table.Tie as tie
+use Rattle.known.proofs.print_table.Statement.{statement}
+use Rattle.known.proofs.print_table.Tie as tie
 
 abbrev Inv-loop : tie.InvT-loop
 Inv-loop count argument₀ argument = Unit {0}

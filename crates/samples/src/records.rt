@@ -1,11 +1,11 @@
 //! The records on which the calls are compared. Each function writes one and answers its length.
+use super::run::Run;
+use super::run::draw;
+use super::shapes::Shape;
+use super::shapes::write;
 use naive::minus;
 use naive::plus;
 use naive::set_letter;
-use trials::Run;
-use trials::Shape;
-use trials::draw;
-use trials::write;
 
 // 2 letters, 3, 4, or at random up to 256.
 fn alphabet(run: &mut Run) -> usize {
@@ -54,8 +54,8 @@ pub fn random_record(word: &mut [u8], most: usize, run: &mut Run) -> usize {
     n
 }
 
-/// One of eight shapes: all equal, random over 2 and over 256 letters, rising, falling, c^k a c^k b, plateaus, periodic.
-pub fn shape_at(which: usize, n: usize) -> Shape {
+// One of eight shapes: all equal, random over 2 and over 256 letters, rising, falling, c^k a c^k b, plateaus, periodic.
+fn shape_at(which: usize, n: usize) -> Shape {
     match which {
         0 => Shape::Periodic {
             letters: 1,
@@ -80,8 +80,8 @@ pub fn shape_at(which: usize, n: usize) -> Shape {
     }
 }
 
-/// A length at the boundaries; the last three are those of long records.
-pub fn length_at(which: usize) -> usize {
+// A length at the boundaries; the last three are those of long records.
+fn length_at(which: usize) -> usize {
     match which {
         0 => 0,
         1 => 1,
@@ -91,4 +91,10 @@ pub fn length_at(which: usize) -> usize {
         5 => 4096,
         _ => 4097,
     }
+}
+
+/// One of eight shapes of a length at the boundaries, each by its number.
+pub fn shaped_record(word: &mut [u8], length: usize, shape: usize, run: &mut Run) -> usize {
+    let n = length_at(length);
+    write(word, n, shape_at(shape, n), run)
 }

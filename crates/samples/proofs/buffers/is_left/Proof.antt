@@ -2,8 +2,8 @@
 use borrow.Author.Needs.{needs}
 use Prim.Native.Nat.{_-_}
 use lib.ListN.{length}
-use Rattle.trials.proofs.buffers.is_left.Statement.{statement}
-use Rattle.trials.proofs.buffers.is_left.Tie as tie
+use Rattle.samples.proofs.buffers.is_left.Statement.{statement}
+use Rattle.samples.proofs.buffers.is_left.Tie as tie
 
 abbrev Inv-loop : tie.InvT-loop
 Inv-loop list cleared written salt i₀ i = Unit {0}

@@ -3,8 +3,8 @@ use borrow.Author.Needs.{needs}
 use mathlib.Core.Path.{_≡_}
 use Prim.Native.Nat.{_-_}
 use lib.ListN.{length}
-use Rattle.trials.proofs.buffers.fill.Statement.{statement}
-use Rattle.trials.proofs.buffers.fill.Tie as tie
+use Rattle.samples.proofs.buffers.fill.Statement.{statement}
+use Rattle.samples.proofs.buffers.fill.Tie as tie
 
 abbrev Inv-loop : tie.InvT-loop
 Inv-loop list₀ salt i₀ list i = length list ≡ length list₀

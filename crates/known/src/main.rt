@@ -1,0 +1,161 @@
+//! Prints what paper 01 says of single records, as the calls answer it. The numbers that must come are the paper's, and stand in `stdout`; the file
+//! `args` has the records A to K.
+use checks::Counted;
+use checks::MOST;
+use compare::Comparison;
+use extension::Extension;
+use libc::STDOUT_FILENO;
+use naive::entry;
+use naive::front;
+use naive::store_three;
+
+// Numbers with commas between them.
+fn print_list(list: &[u16]) {
+    let mut i: usize = 0;
+    while i < list.len() {
+        if 0 < i {
+            io::write_all(STDOUT_FILENO, b",");
+        }
+        io::print_decimal(STDOUT_FILENO, entry(list, i) as u64);
+        i += 1;
+    }
+}
+
+// An answer: the entries of the result, or the refusal's number.
+fn print_answer(name: &[u8], answer: Counted, list: &[u16]) {
+    io::write_all(STDOUT_FILENO, name);
+    match answer {
+        Counted::Count(count) => print_list(front(list, count)),
+        Counted::Refused(number) => {
+            io::write_all(STDOUT_FILENO, b"refusal ");
+            print_list(&[number as u16]);
+        }
+    }
+}
+
+// The piece ends, with so many entries lent for them as `ends` has.
+fn print_pieces(name: &[u8], word: &[u8], ends: &mut [u16]) {
+    let mut work = [0u16; 3 * MOST];
+    let answer = icfl::icfl(word, &mut work, ends);
+    print_answer(name, answer, ends);
+}
+
+// A record that is an argument of the program, with its piece ends and its strict ends.
+fn print_cuts(argument: usize) {
+    let mut text = io::buffer();
+    let length = os::arg(argument, &mut text);
+    let word = &text[..length];
+    let mut ends = [0u16; MOST];
+    io::write_all(STDOUT_FILENO, word);
+    print_pieces(b" pieces=", word, &mut ends);
+    let answer = cfl::cfl_in(word, &mut ends);
+    print_answer(b" strict=", answer, &ends);
+    io::write_all(STDOUT_FILENO, b"\n");
+}
+
+// The records A to K.
+fn print_table() {
+    let count = os::arg_count();
+    let mut argument: usize = 1;
+    while argument < count {
+        print_cuts(argument);
+        argument += 1;
+    }
+}
+
+// L, |p| and |r|; nothing where the test does not give them.
+fn print_test(name: &[u8], word: &[u8]) {
+    let mut work = [0u16; MOST];
+    let mut list = [0u16; 3];
+    io::write_all(STDOUT_FILENO, name);
+    match extension::find_extension(word, &mut work) {
+        Extension::Failing {
+            failing,
+            prefix,
+            border,
+        } => {
+            store_three(&mut list, failing, prefix, border);
+            print_list(&list);
+        }
+        _ => {}
+    }
+}
+
+// The sign of two starts in a range; none of these is refused.
+fn print_sign(name: &[u8], word: &[u8], first: usize, end: usize, start: usize, other: usize) {
+    let sign = match compare::compare_suffixes(word, first, end, start, other) {
+        Comparison::Sign(sign) => sign,
+        Comparison::Refused(_) => 0,
+    };
+    io::write_all(STDOUT_FILENO, name);
+    if sign < 0 {
+        io::write_all(STDOUT_FILENO, b"-1\n");
+    }
+    if 0 < sign {
+        io::write_all(STDOUT_FILENO, b"+1\n");
+    }
+}
+
+// What is said of H and I, and of a stretch that is not whole pieces.
+fn print_sentences() {
+    let mut lengths = [0u16; 9];
+    let mut two = [0u16; 2];
+    let mut one = [0u16; 1];
+    let answer = table::lyndon_table(b"cbabacbac", &mut lengths);
+    print_answer(b"H starts=", answer, &lengths);
+    print_test(b"\nH test=", b"cbabacbac");
+    print_test(b"\nI test=", b"cbabacaacbabacbac");
+    print_pieces(b"\nH with 2 entries pieces=", b"cbabacbac", &mut two);
+    print_pieces(b"\nH with 1 entry pieces=", b"cbabacbac", &mut one);
+    print_sign(b"\nH over 0 to 9, 0 and 5: ", b"cbabacbac", 0, 9, 0, 5);
+    print_sign(b"H over 5 to 9, 5 and 8: ", b"cbabacbac", 5, 9, 5, 8);
+    print_sign(b"bba over 0 to 2, 0 and 1: ", b"bba", 0, 2, 0, 1);
+    print_sign(b"bba over 0 to 3, 0 and 1: ", b"bba", 0, 3, 0, 1);
+}
+
+// The refusal's number, 0 for a result.
+fn refusal(answer: Counted) -> u16 {
+    match answer {
+        Counted::Count(_) => 0,
+        Counted::Refused(number) => number as u16,
+    }
+}
+
+// The same of every call, in the order of the lines below.
+fn print_refusals(name: &[u8], word: &[u8], ends: &[u16]) {
+    let mut work = [0u16; 3 * MOST];
+    let mut list = [0u16; MOST];
+    let tested = match extension::find_extension(word, &mut work) {
+        Extension::Refused(number) => number,
+        _ => 0,
+    };
+    let compared = match compare::compare_suffixes(word, 0, word.len(), 0, 0) {
+        Comparison::Refused(number) => number,
+        Comparison::Sign(_) => 0,
+    };
+    let mut told: u8 = 0;
+    reading::factor_at(word, ends, 0, &mut told);
+    let summary = reading::summarize(word, ends);
+    io::write_all(STDOUT_FILENO, name);
+    print_list(
+        &[
+            tested as u16,
+            refusal(icfl::icfl(word, &mut work, &mut list)),
+            refusal(cfl::cfl_in(word, &mut list)),
+            refusal(table::lyndon_table(word, &mut list)),
+            compared as u16,
+            told as u16,
+            summary.refusal as u16,
+        ],
+    );
+    io::write_all(STDOUT_FILENO, b"\n");
+}
+
+// The table, the sentences, and the refusals at the greatest length and one above it.
+fn main() {
+    print_table();
+    print_sentences();
+    let word = [97u8; MOST + 1];
+    print_refusals(b"4096 letters: ", &word[..MOST], &[4096]);
+    print_refusals(b"4097 letters: ", &word, &[4097]);
+}
