@@ -97,7 +97,7 @@ fn refusal(call: Call, word: &[u8]) -> u16 {
 fn print_refusals(name: &[u8], word: &[u8], ends: &[u16]) {
     let mut told: u8 = 0;
     reading::factor_at(word, ends, 0, &mut told);
-    let summary = reading::summarize(word, ends);
+    let summary = summary::summarize(word, ends);
     let compared = match compare::compare_suffixes(word, 0, word.len(), 0, 0) {
         Comparison::Sign(_) => 0,
         Comparison::Refused(number) => number,
