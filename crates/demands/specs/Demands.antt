@@ -25,9 +25,9 @@ use Rattle.cfl.specs.CflIn.{cflInLines, CflInDone}
 use Rattle.table.specs.Table.{tableLines, Tabled}
 use Rattle.compare.specs.declared.suffixes.Comparison.{Comparison}
 use Rattle.compare.specs.Compare.{signChecked, compareLines, Compared}
-use Rattle.reading.specs.declared.summary.Summary.{Summary}
 use Rattle.reading.specs.Factor.{factorLines, FactorAt}
-use Rattle.reading.specs.Summary.{summaryLines, Summarized}
+use Rattle.summary.specs.declared.Summary.{Summary}
+use Rattle.summary.specs.Summary.{summaryLines, Summarized}
 use Rattle.exports.specs.Exports.{TestNumbers, IcflNumbers, CflInNumbers, TableNumbers, SignNumber, FactorNumbers}
 
 -- ---- seven calls: which answers each may give, with which contents of the lent buffers afterwards

@@ -37,7 +37,7 @@ use Rattle.icfl.specs.Icfl.{workAfter}
 use Rattle.compare.specs.declared.suffixes.Comparison.{Comparison}
 use Rattle.compare.specs.Compare.{signChecked, compareLines}
 use Rattle.compare.proofs.ComparisonLaws.{Within, within-passes}
-use Rattle.reading.specs.Summary.{summaryLines, summaryOf, emptySummary}
+use Rattle.summary.specs.Summary.{summaryLines, summaryOf, emptySummary}
 use Rattle.demands.specs.Demands.{Calls, library, exported, Answers, Untouched, UntouchedBut4, Demand1, Gave, Demand2, Demand3, Runs, Demands}
 use Rattle.demands.specs.Meets.{Meets, Total, library-meets, library-total, exported-meets, exported-total}
 use Rattle.demands.specs.RunsExist.{runs-exist}

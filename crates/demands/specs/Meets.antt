@@ -29,9 +29,9 @@ use Rattle.cfl.specs.CflIn.{CflInDone}
 use Rattle.table.specs.Table.{Tabled}
 use Rattle.compare.specs.declared.suffixes.Comparison.{Comparison}
 use Rattle.compare.specs.Compare.{compareLines, Compared}
-use Rattle.reading.specs.declared.summary.Summary.{Summary}
 use Rattle.reading.specs.Factor.{factorLines, factorFrom, FactorAt}
-use Rattle.reading.specs.Summary.{Summarized}
+use Rattle.summary.specs.declared.Summary.{Summary}
+use Rattle.summary.specs.Summary.{Summarized}
 use Rattle.exports.specs.Exports.{ifFailing, TestNumbers, FilledNumbers, SignNumber, FactorNumbers}
 use Rattle.demands.specs.Demands.{Calls, library, exported, verdictBy, countBy, signBy}
 

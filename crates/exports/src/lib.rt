@@ -4,9 +4,9 @@ use checks::Checked;
 use checks::Counted;
 use compare::Comparison;
 use extension::Extension;
-use reading::Summary;
+use summary::Summary;
 ghost use mathlib.Core.Path.{_≡_};
-ghost use Rattle.reading.specs.Summary.{Summarized};
+ghost use Rattle.summary.specs.Summary.{Summarized};
 ghost use Rattle.exports.specs.Exports.{Small, replyOf, TestNumbers, IcflNumbers, CflInNumbers, TableNumbers, SignNumber, FactorNumbers};
 
 /// A count or a refusal, as two numbers.
@@ -142,5 +142,5 @@ pub extern "C" fn metsroeb_factor(
 pub extern "C" fn metsroeb_summarize(word: &[u8], ends: &[u16]) -> Summary
     ensures { λ r. ⌜ Summarized (now (word .entry)) (now (ends .entry)) r ⌝ }
 {
-    reading::summarize(word, ends)
+    summary::summarize(word, ends)
 }

@@ -135,7 +135,7 @@ fn print_refusals(name: &[u8], word: &[u8], ends: &[u16]) {
     };
     let mut told: u8 = 0;
     reading::factor_at(word, ends, 0, &mut told);
-    let summary = reading::summarize(word, ends);
+    let summary = summary::summarize(word, ends);
     io::write_all(STDOUT_FILENO, name);
     print_list(
         &[

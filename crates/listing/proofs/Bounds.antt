@@ -13,8 +13,8 @@ use Rattle.words.specs.Words.{mostLetters}
 use Rattle.words.specs.Factorizations.{icflEnds, cflInEnds}
 use Rattle.words.specs.places.EndsRise.{Rises, done, more, rises-few, rises-inside, rises-some, icfl-ends-rise, cfl-in-ends-rise}
 use Rattle.checks.proofs.RecordLaws.{Accepted}
-use Rattle.reading.specs.Summary.{lengthsFrom, greatest, startOf, bandsOf, summaryOf}
-use Rattle.reading.proofs.SummaryLaws.{count-most, bands-length, bands-at}
+use Rattle.summary.specs.Summary.{lengthsFrom, greatest, startOf, bandsOf, summaryOf}
+use Rattle.summary.proofs.SummaryLaws.{count-most, bands-length, bands-at}
 use Rattle.text.specs.Text.{ascii, decimal, commaEach, commaList}
 use Rattle.text.proofs.Decimals.{decimal-most}
 use Rattle.text.proofs.Texts.{line-length}

@@ -22,9 +22,9 @@ use Rattle.checks.proofs.RecordLaws.{accepted}
 use Rattle.checks.proofs.EndsLaws.{EndsOf, ends-pass}
 use Rattle.icfl.specs.Icfl.{icflLines, IcflDone}
 use Rattle.cfl.specs.CflIn.{cflInLines, CflInDone}
-use Rattle.reading.specs.Summary.{summaryLines, summaryOf, Summarized}
-use Rattle.reading.specs.declared.summary.Summary.{Summary}
-use Rattle.reading.proofs.SummaryLaws.{bands-length}
+use Rattle.summary.specs.Summary.{summaryLines, summaryOf, Summarized}
+use Rattle.summary.specs.declared.Summary.{Summary}
+use Rattle.summary.proofs.SummaryLaws.{bands-length}
 use Rattle.text.specs.Writing.{FitsAt, WroteAt}
 use Rattle.text.proofs.Stores.{wrote-front}
 use Rattle.listing.specs.Listing.{linesOf, sevenLines, refusedLine, listingOf, Listed}

@@ -7,8 +7,8 @@ use lib.ListN.{length}
 use Rattle.words.specs.Factorizations.{icflEnds, cflInEnds}
 use Rattle.buffers.specs.Buffers.{cleared, written}
 use Rattle.checks.specs.Lines.{tried, _unless_then_, recordLines}
-use Rattle.reading.specs.Summary.{summaryOf}
-use Rattle.reading.specs.declared.summary.Summary.{Summary}
+use Rattle.summary.specs.Summary.{summaryOf}
+use Rattle.summary.specs.declared.Summary.{Summary}
 use Rattle.text.specs.Text.{ascii, decimal, commaList, line}
 
 -- "The lines give the record's length, the number of pieces, their ends, the strict ends, the longest piece's length, its first place, and the

@@ -8,7 +8,7 @@ use Rattle.words.specs.Factorizations.{icflEnds, cflInEnds}
 use Rattle.checks.specs.Lines.{tried, recordLines}
 use Rattle.checks.specs.declared.Checked.the-variants.{Passed}
 use Rattle.checks.specs.declared.Counted.{Counted}
-use Rattle.reading.specs.declared.summary.Summary.{Summary}
+use Rattle.summary.specs.declared.Summary.{Summary}
 use Rattle.listing.specs.Listing.{linesOf}
 
 -- how long texts are together

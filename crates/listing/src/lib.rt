@@ -20,7 +20,7 @@ fn write_result(word: &[u8], ends: &[u16], strict: &[u16], out: &mut [u8]) -> us
     requires { ⌜ CutLists (now word) (now ends) (now strict) (now out) ⌝ }
     ensures { λ r. ⌜ WroteAt 0 (listingOf (now (word .entry))) (now (out .entry)) r (now (out .exit)) ⌝ }
 {
-    let summary = reading::summarize(word, ends);
+    let summary = summary::summarize(word, ends);
     lines::write_lines(word.len() as u16, ends, strict, summary, out)
 }
 

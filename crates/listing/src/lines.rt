@@ -1,5 +1,5 @@
 //! The lines of a listing, written to the front of a lent buffer. Each function answers their length.
-use reading::Summary;
+use summary::Summary;
 ghost use Rattle.text.specs.Writing.{FitsAt, WroteAt};
 ghost use Rattle.listing.specs.Listing.{sevenLines, refusedLine};
 ghost use Rattle.listing.specs.Writing.{Printable};

@@ -1,5 +1,1 @@
 pub mod FactorLaws
-pub mod BitLengths
-pub mod SummaryLaws
-pub mod Summing
-pub mod BandsSum

@@ -6,7 +6,7 @@ use lib.ListN.{length, getD}
 use lib.Seq.{slice}
 use Rattle.checks.specs.Lines.{Line, tried, _unless_then_, numberLine}
 use Rattle.checks.specs.Answers.{numberOf}
-use Rattle.reading.specs.Summary.{summaryLines}
+use Rattle.summary.specs.Summary.{summaryLines}
 
 -- 1, 2, 7 and 8
 abbrev pub factorLines : List ℕ → List ℕ → ℕ → List Line

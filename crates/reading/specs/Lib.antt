@@ -1,2 +1,1 @@
-pub mod Summary
 pub mod Factor

@@ -37,7 +37,7 @@ fn are_bands(bands: &[u16], ends: &[u16]) -> bool {
 
 /// Whether the summary is that of the parts, or the refusal beside that of no parts, which is 0 throughout.
 pub fn summary_agrees(word: &[u8], ends: &[u16]) -> bool {
-    let summary = reading::summarize(word, ends);
+    let summary = summary::summarize(word, ends);
     let refused = naive::summary_refusal(word.len(), ends);
     let parts = front(ends, if refused == 0 { ends.len() } else { 0 });
     let longest = naive::longest(parts);

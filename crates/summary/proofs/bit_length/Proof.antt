@@ -2,9 +2,9 @@
 use borrow.Author.Needs.{needs}
 use native.Mathlib.Omega.{arith}
 use lib.Count.{leading-le}
-use Rattle.reading.proofs.BitLengths.{zeros-and-bits}
-use Rattle.reading.proofs.summary.bit_length.Statement.{statement}
-use Rattle.reading.proofs.summary.bit_length.Tie as tie
+use Rattle.summary.proofs.BitLengths.{zeros-and-bits}
+use Rattle.summary.proofs.bit_length.Statement.{statement}
+use Rattle.summary.proofs.bit_length.Tie as tie
 
 sub-result : tie.Need-sub-result
 sub-result c = omega (arith, leading-le 16 (c .args .n))

@@ -8,7 +8,7 @@ use native.Mathlib.Nat.{add-zero}
 use lib.ListN.{length, getD}
 use borrow.Author.Tests.{eq-eqb, ne-eqb}
 use Rattle.words.specs.orders.Decisions.{Decides, holds, fails, eqb-test}
-use Rattle.reading.specs.Summary.{lengthsFrom, startOf, bitLength, countOf, bandsOf}
+use Rattle.summary.specs.Summary.{lengthsFrom, startOf, bitLength, countOf, bandsOf}
 
 pub start-here : (n a e : ℕ) (es : List ℕ) → e - a ≡ n → startOf n a (e ∷ es) ≡ a
 unfolding startOf

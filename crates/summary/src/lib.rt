@@ -1,8 +1,9 @@
-//! The summary of the parts that a list of ends marks in a record.
+//! The summary of the parts that a list of ends marks in a record. The list may be any that line 7 of the refusals accepts; it need not
+//! be a factorization.
 use checks::Checked;
 ghost use mathlib.Core.Path.{_≡_};
 ghost use Rattle.checks.specs.Lines.{tried};
-ghost use Rattle.reading.specs.Summary.{summaryLines, bitLength, emptySummary, summaryOf, Summarized, Summable};
+ghost use Rattle.summary.specs.Summary.{summaryLines, bitLength, emptySummary, summaryOf, Summarized, Summable};
 
 /// What the parts come to. Beside a refusal all fields but its number are 0.
 #[repr(C)]

@@ -5,10 +5,10 @@ use mathlib.Core.Logic.{⊎-elim}
 use Prim.Native.Nat.{_-_, _≤_, _<_}
 use native.Mathlib.Omega.{arith}
 use lib.ListN.{length, getD}
-use Rattle.reading.proofs.BitLengths.{bit-length-some, bit-length-most}
-use Rattle.reading.proofs.Summing.{SummedUpTo, summed-start, summed-above, summed-room, summed-kept, summed-replaced, summed-end}
-use Rattle.reading.proofs.summary.sum_up.Statement.{statement}
-use Rattle.reading.proofs.summary.sum_up.Tie as tie
+use Rattle.summary.proofs.BitLengths.{bit-length-some, bit-length-most}
+use Rattle.summary.proofs.Summing.{SummedUpTo, summed-start, summed-above, summed-room, summed-kept, summed-replaced, summed-end}
+use Rattle.summary.proofs.sum_up.Statement.{statement}
+use Rattle.summary.proofs.sum_up.Tie as tie
 
 abbrev Inv-loop : tie.InvT-loop
 Inv-loop ends bands₀ longest₀ from₀ last₀ i₀ bands longest from last i = SummedUpTo ends longest from bands last i

@@ -1,7 +1,7 @@
 use borrow.Author.Needs.{needs}
 use Rattle.checks.proofs.LineLaws.{both}
-use Rattle.reading.proofs.summary.admit_ends.Statement.{statement}
-use Rattle.reading.proofs.summary.admit_ends.Tie as tie
+use Rattle.summary.proofs.admit_ends.Statement.{statement}
+use Rattle.summary.proofs.admit_ends.Tie as tie
 
 check-record-requires : tie.Need-check-record-requires
 check-record-requires c κs = search needs

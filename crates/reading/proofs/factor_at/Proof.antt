@@ -12,8 +12,8 @@ use Rattle.checks.specs.Answers.{numberOf}
 use Rattle.checks.proofs.LineLaws.{passed, refused}
 use Rattle.reading.specs.Factor.{factorLines}
 use Rattle.reading.proofs.FactorLaws.{Placed, placed}
-use Rattle.reading.proofs.factor.factor_at.Statement.{statement}
-use Rattle.reading.proofs.factor.factor_at.Tie as tie
+use Rattle.reading.proofs.factor_at.Statement.{statement}
+use Rattle.reading.proofs.factor_at.Tie as tie
 
 passed-at : (c : tie.After-enum-told) → let a = c .before .before .before .before .before .before .args in
     tried (factorLines (a .word .now) (a .ends .now) (a .number)) ≡ Passed

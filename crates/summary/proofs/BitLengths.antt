@@ -6,7 +6,7 @@ use native.Mathlib.Nat.{add-suc, add-zero, pow-suc}
 use native.Mathlib.Omega.{arith}
 use lib.Count.{leadingZeros, leading-top}
 use Rattle.words.specs.Words.{mostLetters}
-use Rattle.reading.specs.Summary.{bitLengthWithin, bitLength}
+use Rattle.summary.specs.Summary.{bitLengthWithin, bitLength}
 
 zeros-and-bits-within : (k n : ℕ) → leadingZeros k n + bitLengthWithin k n ≡ k
 unfolding leadingZeros bitLengthWithin

@@ -6,8 +6,8 @@ use Prim.Native.Nat.{ℕ, zero, suc, _-_}
 use native.Mathlib.Omega.{arith}
 use lib.ListN.{getD}
 use Rattle.reading.specs.Factor.{factorFrom}
-use Rattle.reading.proofs.factor.factor_from.Statement.{statement}
-use Rattle.reading.proofs.factor.factor_from.Tie as tie
+use Rattle.reading.proofs.factor_from.Statement.{statement}
+use Rattle.reading.proofs.factor_from.Tie as tie
 
 from-before : (es : List ℕ) (k : ℕ) → ¬ (k ≡ 0) → getD es (k - 1) 0 ≡ factorFrom es k
 from-before es zero n = absurd (n refl)

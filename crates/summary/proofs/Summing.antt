@@ -9,8 +9,8 @@ use native.Mathlib.Omega.{arith}
 use native.Mathlib.Numerals.{add-one}
 use lib.ListN.{length, drop, getD, set, replicate, length-set, drop-of-length-le, getD-replicate}
 use lib.Seq.{drop-cons, getD-set-same, getD-set-other, ext-getD}
-use Rattle.reading.specs.Summary.{lengthsFrom, greatest, startOf, bitLength, countOf, bandsOf, summaryOf, Summable}
-use Rattle.reading.proofs.SummaryLaws.{bandsFrom, start-here, start-later, count-here, count-other, count-most, bands-length, bands-at}
+use Rattle.summary.specs.Summary.{lengthsFrom, greatest, startOf, bitLength, countOf, bandsOf, summaryOf, Summable}
+use Rattle.summary.proofs.SummaryLaws.{bandsFrom, start-here, start-later, count-here, count-other, count-most, bands-length, bands-at}
 
 -- ---- the longest part
 

@@ -1,7 +1,7 @@
 use borrow.Author.Needs.{needs}
 use Rattle.checks.proofs.LineLaws.{both}
-use Rattle.reading.proofs.factor.admit_factor.Statement.{statement}
-use Rattle.reading.proofs.factor.admit_factor.Tie as tie
+use Rattle.reading.proofs.admit_factor.Statement.{statement}
+use Rattle.reading.proofs.admit_factor.Tie as tie
 
 admit-ends-requires : tie.Need-admit-ends-requires
 admit-ends-requires c κs = search needs

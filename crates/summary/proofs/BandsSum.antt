@@ -11,11 +11,11 @@ use Rattle.words.specs.places.EndsRise.{Rises, done, more, rises-few}
 use Rattle.checks.specs.declared.Checked.{Checked}
 use Rattle.checks.specs.declared.Checked.the-variants.{Passed, Refused}
 use Rattle.checks.specs.Lines.{tried, decided}
-use Rattle.reading.specs.declared.summary.Summary.{Summary}
-use Rattle.reading.specs.Summary.{summaryLines, lengthsFrom, bitLength, countOf, bandsOf, emptySummary, summaryOf, Summarized}
-use Rattle.reading.proofs.FactorLaws.{EndsAccepted, ends-admitted}
-use Rattle.reading.proofs.BitLengths.{bit-length-most, bit-length-some}
-use Rattle.reading.proofs.SummaryLaws.{bandsFrom, countsFrom, count-here, count-other, bands-are-counts}
+use Rattle.summary.specs.declared.Summary.{Summary}
+use Rattle.summary.specs.Summary.{summaryLines, lengthsFrom, bitLength, countOf, bandsOf, emptySummary, summaryOf, Summarized}
+use Rattle.summary.proofs.EndsAdmitted.{EndsAccepted, ends-admitted}
+use Rattle.summary.proofs.BitLengths.{bit-length-most, bit-length-some}
+use Rattle.summary.proofs.SummaryLaws.{bandsFrom, countsFrom, count-here, count-other, bands-are-counts}
 
 counts-none : (b k : ℕ) → sum _+_ 0 (countsFrom b k []) ≡ 0
 unfolding sum countOf

@@ -7,7 +7,7 @@ use lib.ListN.{length, getD, replicate}
 use lib.Dec.{eqb}
 use Rattle.words.specs.Words.{mostLetters}
 use Rattle.checks.specs.Lines.{Line, _unless_then_, recordLines, endsLine}
-use Rattle.reading.specs.declared.summary.Summary.{Summary}
+use Rattle.summary.specs.declared.Summary.{Summary}
 
 -- 1, 2 and 7
 abbrev pub summaryLines : List ℕ → List ℕ → List Line

@@ -4,10 +4,10 @@ use mathlib.Core.Path.{_≡_, _∙_}
 use Rattle.checks.specs.declared.Checked.the-variants.{Passed}
 use Rattle.checks.specs.Lines.{tried}
 use Rattle.checks.proofs.LineLaws.{passed, refused}
-use Rattle.reading.specs.Summary.{summaryLines, emptySummary}
-use Rattle.reading.proofs.FactorLaws.{EndsAccepted, ends-admitted, summable}
-use Rattle.reading.proofs.summary.summarize.Statement.{statement}
-use Rattle.reading.proofs.summary.summarize.Tie as tie
+use Rattle.summary.specs.Summary.{summaryLines, emptySummary}
+use Rattle.summary.proofs.EndsAdmitted.{EndsAccepted, ends-admitted, summable}
+use Rattle.summary.proofs.summarize.Statement.{statement}
+use Rattle.summary.proofs.summarize.Tie as tie
 
 passed-at : (c : tie.After-enum-told) → let a = c .before .before .before .before .before .args in tried (summaryLines (a .word .now) (a .ends .now)) ≡ Passed
 passed-at c = passed _ (c .before .before .admit-ends .ensures) (c .before .match .keys1)

@@ -1,0 +1,5 @@
+pub mod EndsAdmitted
+pub mod BitLengths
+pub mod SummaryLaws
+pub mod Summing
+pub mod BandsSum
