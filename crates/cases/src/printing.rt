@@ -6,7 +6,8 @@ use samples::Run;
 use samples::STATE;
 use samples::place;
 
-fn print_count(run: &Run, at: usize) {
+fn print_count(name: &[u8], run: &Run, at: usize) {
+    io::write_all(STDOUT_FILENO, name);
     if at < STATE {
         io::print_decimal(STDOUT_FILENO, run[at] as u64);
     }
@@ -18,19 +19,22 @@ fn print_line(name: &[u8], call: Call, limits: bool, run: &Run) {
     if limits {
         io::write_all(STDOUT_FILENO, b" refusals");
     }
-    io::write_all(STDOUT_FILENO, b" agreed=");
-    print_count(run, place(call, limits));
-    io::write_all(STDOUT_FILENO, b" disagreed=");
-    print_count(run, plus(place(call, limits), 1));
+    let at = place(call, limits);
+    print_count(b" agreed=", run, at);
+    print_count(b" disagreed=", run, plus(at, 1));
     io::write_all(STDOUT_FILENO, b"\n");
 }
 
-// The lines of the public calls.
-fn print_calls(limits: bool, run: &Run) {
+// The lines of the calls that are lent buffers.
+fn print_lent(limits: bool, run: &Run) {
     print_line(b"find_extension", Call::Test, limits, run);
     print_line(b"icfl", Call::Pieces, limits, run);
     print_line(b"cfl_in", Call::Strict, limits, run);
     print_line(b"lyndon_table", Call::Starts, limits, run);
+}
+
+// The lines of the other calls.
+fn print_others(limits: bool, run: &Run) {
     print_line(b"compare_suffixes", Call::Compare, limits, run);
     print_line(b"factor_at", Call::Part, limits, run);
     print_line(b"summarize", Call::Summary, limits, run);
@@ -38,7 +42,9 @@ fn print_calls(limits: bool, run: &Run) {
 
 /// All lines; `common_length` has no refusal.
 pub fn print_all(run: &Run) {
-    print_calls(false, run);
+    print_lent(false, run);
+    print_others(false, run);
     print_line(b"common_length", Call::Common, false, run);
-    print_calls(true, run);
+    print_lent(true, run);
+    print_others(true, run);
 }

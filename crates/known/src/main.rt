@@ -96,17 +96,23 @@ fn print_sign(name: &[u8], word: &[u8], first: usize, end: usize, start: usize, 
     }
 }
 
-// What is said of H and I, and of a stretch that is not whole pieces.
-fn print_sentences() {
+// The start table of H.
+fn print_starts() {
     let mut lengths = [0u16; 9];
-    let mut two = [0u16; 2];
-    let mut one = [0u16; 1];
     let answer = table::lyndon_table(b"cbabacbac", &mut lengths);
     print_answer(b"H starts=", answer, &lengths);
-    print_test(b"\nH test=", b"cbabacbac");
-    print_test(b"\nI test=", b"cbabacaacbabacbac");
+}
+
+// The pieces of H, with as many entries lent as it has pieces, and with one fewer.
+fn print_room() {
+    let mut two = [0u16; 2];
+    let mut one = [0u16; 1];
     print_pieces(b"\nH with 2 entries pieces=", b"cbabacbac", &mut two);
     print_pieces(b"\nH with 1 entry pieces=", b"cbabacbac", &mut one);
+}
+
+// Signs of H, and of a stretch that is not whole pieces.
+fn print_signs() {
     print_sign(b"\nH over 0 to 9, 0 and 5: ", b"cbabacbac", 0, 9, 0, 5);
     print_sign(b"H over 5 to 9, 5 and 8: ", b"cbabacbac", 5, 9, 5, 8);
     print_sign(b"bba over 0 to 2, 0 and 1: ", b"bba", 0, 2, 0, 1);
@@ -121,14 +127,22 @@ fn refusal(answer: Counted) -> u16 {
     }
 }
 
-// The same of every call, in the order of the lines below.
-fn print_refusals(name: &[u8], word: &[u8], ends: &[u16]) {
+// The same of the calls that are lent buffers: the test, both cuts, the start table.
+fn print_lent_refusals(word: &[u8]) {
     let mut work = [0u16; 3 * MOST];
     let mut list = [0u16; MOST];
     let tested = match extension::find_extension(word, &mut work) {
-        Extension::Refused(number) => number,
+        Extension::Refused(number) => number as u16,
         _ => 0,
     };
+    let pieces = refusal(icfl::icfl(word, &mut work, &mut list));
+    let strict = refusal(cfl::cfl_in(word, &mut list));
+    let starts = refusal(table::lyndon_table(word, &mut list));
+    print_list(&[tested, pieces, strict, starts]);
+}
+
+// The same of every call: those, then comparison, reader and summary.
+fn print_refusals(name: &[u8], word: &[u8], ends: &[u16]) {
     let compared = match compare::compare_suffixes(word, 0, word.len(), 0, 0) {
         Comparison::Refused(number) => number,
         Comparison::Sign(_) => 0,
@@ -137,24 +151,20 @@ fn print_refusals(name: &[u8], word: &[u8], ends: &[u16]) {
     reading::factor_at(word, ends, 0, &mut told);
     let summary = summary::summarize(word, ends);
     io::write_all(STDOUT_FILENO, name);
-    print_list(
-        &[
-            tested as u16,
-            refusal(icfl::icfl(word, &mut work, &mut list)),
-            refusal(cfl::cfl_in(word, &mut list)),
-            refusal(table::lyndon_table(word, &mut list)),
-            compared as u16,
-            told as u16,
-            summary.refusal as u16,
-        ],
-    );
+    print_lent_refusals(word);
+    io::write_all(STDOUT_FILENO, b",");
+    print_list(&[compared as u16, told as u16, summary.refusal as u16]);
     io::write_all(STDOUT_FILENO, b"\n");
 }
 
-// The table, the sentences, and the refusals at the greatest length and one above it.
+// The table, what is said of H and I and of a stretch, and the refusals at the greatest length and one above it.
 fn main() {
     print_table();
-    print_sentences();
+    print_starts();
+    print_test(b"\nH test=", b"cbabacbac");
+    print_test(b"\nI test=", b"cbabacaacbabacbac");
+    print_room();
+    print_signs();
     let word = [97u8; MOST + 1];
     print_refusals(b"4096 letters: ", &word[..MOST], &[4096]);
     print_refusals(b"4097 letters: ", &word, &[4097]);

@@ -47,7 +47,7 @@ pub fn random_record(word: &mut [u8], most: usize, run: &mut Run) -> usize {
     let kind = draw(run, 9);
     let shape = random_shape(kind, n, letters, run);
     write(word, n, shape, run);
-    if kind == 1 || kind == 3 {
+    if (kind == 1) | (kind == 3) {
         let at = draw(run, n);
         set_letter(word, at, draw(run, letters));
     }

@@ -38,33 +38,36 @@ pub fn spell(word: &mut [u8], letters: usize, number: usize) -> usize {
     i
 }
 
+// Letter i of n of c^k a c^k b.
+fn letter_of_powers(n: usize, i: usize) -> usize {
+    if i == minus(n, 1) {
+        return 98;
+    }
+    if i == minus(n, 2) / 2 { 97 } else { 99 }
+}
+
+// A new letter, or the one so many places before.
+fn new_or_earlier(is_new: bool, new: usize, word: &[u8], i: usize, before: usize) -> usize {
+    if is_new {
+        return new;
+    }
+    letter(word, minus(i, before)) as usize
+}
+
 // Letter i of n.
 fn letter_of(word: &[u8], n: usize, i: usize, shape: Shape, run: &mut Run) -> usize {
     match shape {
         Shape::Periodic { letters, period } => {
             let new = draw(run, letters);
-            if i < period || period == 0 {
-                new
-            } else {
-                letter(word, minus(i, period)) as usize
-            }
+            new_or_earlier((i < period) | (period == 0), new, word, i, period)
         }
         Shape::Plateaus { letters } => {
             let new = draw(run, letters);
-            if draw(run, 4) == 0 {
-                new
-            } else {
-                letter(word, minus(i, 1)) as usize
-            }
+            new_or_earlier(draw(run, 4) == 0, new, word, i, 1)
         }
         Shape::Rising { width } => i / (width % 256 + 1),
         Shape::Falling { width } => minus(255, i / (width % 256 + 1)),
-        Shape::Powers => {
-            if i == minus(n, 1) {
-                return 98;
-            }
-            if i == minus(n, 2) / 2 { 97 } else { 99 }
-        }
+        Shape::Powers => letter_of_powers(n, i),
     }
 }
 

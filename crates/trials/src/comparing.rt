@@ -11,8 +11,8 @@ fn comparison_is(word: &[u8], first: usize, end: usize, start: usize, other: usi
     let answer = compare::compare_suffixes(word, first, end, start, other);
     let refused = naive::range_refusal(word.len(), first, end, start, other);
     match answer {
-        Comparison::Refused(number) => refused != 0 && number == refused,
-        Comparison::Sign(sign) => refused == 0 && sign == naive::sign(word, end, start, other),
+        Comparison::Refused(number) => (refused != 0) & (number == refused),
+        Comparison::Sign(sign) => (refused == 0) & (sign == naive::sign(word, end, start, other)),
     }
 }
 

@@ -73,18 +73,18 @@ fn is_right(
     list: &[u16],
 ) -> bool {
     let answered = match answer {
-        Counted::Refused(number) => refused != 0 && number == refused,
-        Counted::Count(count) => refused == 0 && count == want.len(),
+        Counted::Refused(number) => (refused != 0) & (number == refused),
+        Counted::Count(count) => (refused == 0) & (count == want.len()),
     };
-    let cleared = if refused == 0 || refused == 4 {
+    let cleared = if (refused == 0) | (refused == 4) {
         needed
     } else {
         0
     };
     let written = if refused == 0 { want.len() } else { 0 };
     answered
-        && is_left(work, cleared, front(want, 0), WORK_SALT)
-        && is_left(list, 0, front(want, written), SALT)
+        & is_left(work, cleared, front(want, 0), WORK_SALT)
+        & is_left(list, 0, front(want, written), SALT)
 }
 
 // Whether the call, lent so many work and result entries, does as the second implementation says.
@@ -106,14 +106,14 @@ fn is_defined(call: Call, word: &[u8], want: &[u16]) -> bool {
     }
     let mut list = [0u16; SHORT];
     let count = naive::answer_by_definition(call, word, &mut list);
-    count == want.len() && is_left(front(&list, count), 0, want, 0)
+    (count == want.len()) & is_left(front(&list, count), 0, want, 0)
 }
 
 /// With a few entries to spare, and by the definitions.
 pub fn agrees(call: Call, word: &[u8], want: &[u16]) -> bool {
     let n = word.len();
     let room = plus(work_needed(call, n), n % 7);
-    lent_is(call, word, room, plus(want.len(), n % 5), want) && is_defined(call, word, want)
+    lent_is(call, word, room, plus(want.len(), n % 5), want) & is_defined(call, word, want)
 }
 
 /// Case `code` at the boundaries of the buffers' lengths: no entry, one too few, as many as needed, one more; 4 where one buffer is lent, 16 for the

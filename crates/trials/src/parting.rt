@@ -6,21 +6,21 @@ use naive::minus;
 use naive::tail;
 use samples::about;
 use samples::write_list;
+use summary::Summary;
 
 /// Whether the reader gives the part, or the refusal beside an empty one.
 pub fn part_agrees(word: &[u8], ends: &[u16], number: usize) -> bool {
     let mut told: u8 = 200;
     let part = reading::factor_at(word, ends, number, &mut told);
     let refused = naive::part_refusal(word.len(), ends, number);
-    if told != refused {
-        return false;
-    }
-    if refused != 0 {
-        return part.len() == 0;
-    }
     let from = naive::part_start(ends, number);
-    let size = minus(naive::part_end(ends, number), from);
-    part.len() == size && naive::common(part, tail(word, from)) == size
+    let end = if refused == 0 {
+        naive::part_end(ends, number)
+    } else {
+        from
+    };
+    let size = minus(end, from);
+    (told == refused) & (part.len() == size) & (naive::common(part, tail(word, from)) == size)
 }
 
 // Whether the thirteen counts are those of the parts.
@@ -35,17 +35,21 @@ fn are_bands(bands: &[u16], ends: &[u16]) -> bool {
     true
 }
 
+// Whether the numbers of a summary are those of the parts.
+fn is_summary(summary: Summary, parts: &[u16]) -> bool {
+    let longest = naive::longest(parts);
+    let from = naive::earliest(parts, longest);
+    let bands = summary.bands;
+    let placed = (summary.longest as usize == longest) & (summary.from as usize == from);
+    placed & (summary.count as usize == parts.len()) & are_bands(&bands, parts)
+}
+
 /// Whether the summary is that of the parts, or the refusal beside that of no parts, which is 0 throughout.
 pub fn summary_agrees(word: &[u8], ends: &[u16]) -> bool {
     let summary = summary::summarize(word, ends);
     let refused = naive::summary_refusal(word.len(), ends);
     let parts = front(ends, if refused == 0 { ends.len() } else { 0 });
-    let longest = naive::longest(parts);
-    let bands = summary.bands;
-    let from = naive::earliest(parts, longest);
-    let numbered = summary.refusal == refused && (summary.count as usize) == parts.len();
-    let placed = (summary.longest as usize) == longest && (summary.from as usize) == from;
-    numbered && placed && are_bands(&bands, parts)
+    (summary.refusal == refused) & is_summary(summary, parts)
 }
 
 /// The reader on list `code` / 5 of those with faults, at one of five numbers about the number of its ends.
