@@ -1,6 +1,6 @@
 # Prints, from the lines of all placements (call, record, length, nanoseconds of the verified call and of the peer's), the times of each
 # call to the file `tables`, and to standard output the ratios beside their bars. A ratio above its bar is marked; the exit status is then 1,
-# unless that is known.
+# unless that is known. With `bar` set it is the bar of every row, and an earlier archive stands in the peer's place.
 function number(ns,    digits, text) {
     if (ns < 100) return sprintf("%.1f", ns)
     digits = sprintf("%.0f", ns)
@@ -16,11 +16,12 @@ function row_of(call, record) {
 }
 # Reader and summary are called once for a page.
 function bar_of(row) {
+    if (bar != "") return bar
     return row ~ /metsroeb_(factor|summarize)|ends at once/ ? 1.25 : 1.00
 }
 # A bar that is known to be missed (docs/DECISIONS.md, the summary): the run fails only above this.
 function limit_of(row) {
-    return row ~ /bands are read/ ? 1.65 : bar_of(row)
+    return bar == "" && row ~ /bands are read/ ? 1.65 : bar_of(row)
 }
 function marked(ratio, bar,    shown) {
     shown = sprintf("%.2f", ratio)
@@ -32,8 +33,9 @@ BEGIN {
     count = split("512 1024 2048 4096", lengths, " ")
     print "# Times\n" > tables
     print "Written by `bench/run`; [docs/BENCHMARKS.md](../docs/BENCHMARKS.md) says how they are taken. Nanoseconds of a call," > tables
-    print "verified / peer = ratio, marked where it is above its bar. Each number is the least of twelve medians, three for each" > tables
-    print "of four placements of the code in memory; a median is of 25 batches, verified and peer in alternation. Growth: of the" > tables
+    other = bar == "" ? "peer" : "earlier"
+    print "verified / " other " = ratio, marked where it is above its bar. Each number is the least of twelve medians, three for each" > tables
+    print "of four placements of the code in memory; a median is of 25 batches, verified and " other " in alternation. Growth: of the" > tables
     print "verified call's time, from each length to the next." > tables
 }
 {

@@ -1,10 +1,15 @@
-//! Times the verified calls and the peer's. A line for each call, input and length: their names and the nanoseconds of one call of
-//! both. An argument picks the calls whose names have it.
+//! Times the verified calls and the peer's, or those of an earlier archive. A line for each call, input and length: their
+//! names and the nanoseconds of one call of both. An argument picks the calls whose names have it.
+#[cfg(earlier)]
+#[rustfmt::skip] // its files are there only where it is built
+mod earlier;
 mod inputs;
 
+#[cfg(earlier)]
+use earlier as other;
 use inputs::{Input, INPUTS};
-use metsroeb::Summary;
-use metsroeb_tests::peer;
+#[cfg(not(earlier))]
+use metsroeb_tests::peer as other;
 use std::hint::black_box;
 use std::time::Instant;
 
@@ -29,7 +34,7 @@ struct Case {
 impl Case {
     fn new(record: Vec<u8>) -> Case {
         let n = record.len();
-        let strict_ends = peer::cfl_in(&record, &mut vec![0; n]).unwrap().to_vec();
+        let strict_ends = metsroeb::cfl_in(&record, &mut vec![0; n]).unwrap().to_vec();
         let agreement = |s: &usize| record.iter().zip(&record[*s..]).take_while(|(a, b)| a == b).count();
         let start = (1..n).rev().max_by_key(agreement).unwrap();
         Case { strict_ends, start, record }
@@ -73,15 +78,15 @@ macro_rules! calls_of {
                 black_box($of::summarize(&case.record, &case.strict_ends).map(|all| (all.count, all.longest, all.from))).ok();
             }),
             ("`metsroeb_summarize`, of the strict cut, until the bands are read too", |case, _| {
-                let read = |all: Summary| (all.count, all.longest, all.from, all.bands.iter().sum::<u16>());
-                black_box($of::summarize(&case.record, &case.strict_ends).map(read)).ok();
+                let all = $of::summarize(&case.record, &case.strict_ends);
+                black_box(all.map(|all| (all.count, all.longest, all.from, all.bands.iter().sum::<u16>()))).ok();
             }),
         ]
     };
 }
 
 const VERIFIED: [(&str, Call); 9] = calls_of!(metsroeb);
-const PEER: [(&str, Call); 9] = calls_of!(peer);
+const OTHER: [(&str, Call); 9] = calls_of!(other);
 
 /// Nanoseconds of one call.
 fn batch(call: Call, (cases, lent): &mut (Vec<Case>, Buffers), repeats: usize) -> f64 {
@@ -99,7 +104,7 @@ fn median(times: &mut [f64]) -> f64 {
     times[times.len() / 2]
 }
 
-/// For each length the nanoseconds of a call, verified and peer. Both and all lengths alternate, and who begins, so that they meet the same
+/// For each length the nanoseconds of a call, verified and other. Both and all lengths alternate, and who begins, so that they meet the same
 /// machine and the same caches.
 fn measure(sides: [Call; 2], (_, records, make): Input) -> [(f64, f64); 4] {
     let mut benches = LENGTHS.map(|n| {
@@ -118,16 +123,16 @@ fn measure(sides: [Call; 2], (_, records, make): Input) -> [(f64, f64); 4] {
             }
         }
     }
-    times.map(|[mut verified, mut peer]| (median(&mut verified), median(&mut peer)))
+    times.map(|[mut verified, mut other]| (median(&mut verified), median(&mut other)))
 }
 
 fn main() {
     black_box(metsroeb_bench_pad as *const ());
     let wanted = std::env::args().nth(1).unwrap_or_default();
-    for ((name, verified), (_, peer)) in VERIFIED.into_iter().zip(PEER).filter(|((name, _), _)| name.contains(&wanted)) {
+    for ((name, verified), (_, other)) in VERIFIED.into_iter().zip(OTHER).filter(|((name, _), _)| name.contains(&wanted)) {
         for input in INPUTS {
-            for (n, (verified, peer)) in LENGTHS.into_iter().zip(measure([verified, peer], input)) {
-                println!("{name}\t{}\t{n}\t{verified:.2}\t{peer:.2}", input.0);
+            for (n, (verified, other)) in LENGTHS.into_iter().zip(measure([verified, other], input)) {
+                println!("{name}\t{}\t{n}\t{verified:.2}\t{other:.2}", input.0);
             }
         }
     }
