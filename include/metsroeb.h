@@ -43,7 +43,7 @@ typedef struct {
     uint8_t refusal;
     uint16_t count;     /* number of factors */
     uint16_t longest;   /* greatest length of a factor */
-    uint16_t from;      /* first place of the earliest factor of that length */
+    uint16_t from;      /* first place of the latest factor of that length */
     uint16_t bands[13]; /* bands[k]: number of factors whose length has k + 1 binary digits */
 } metsroeb_summary;
 

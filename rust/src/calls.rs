@@ -150,7 +150,8 @@ pub fn factor_at<'a>(record: &'a [u8], ends: &[u16], number: usize) -> Result<&'
     Ok(&record[usize::from(first)..usize::from(end)])
 }
 
-/// The summary of the factors that the list of ends marks. The list need not be the piece cut.
+/// The summary of the factors that the list of ends marks. The list need not be the piece cut. Of equally long factors the latest
+/// is named.
 ///
 /// Refusals: [`EMPTY_RECORD`](Refusal::EMPTY_RECORD), [`LONG_RECORD`](Refusal::LONG_RECORD),
 /// [`BAD_ENDS`](Refusal::BAD_ENDS).
@@ -159,6 +160,8 @@ pub fn factor_at<'a>(record: &'a [u8], ends: &[u16], number: usize) -> Result<&'
 /// let summary = metsroeb::summarize(b"cbabacbac", &[5, 9])?;
 /// assert_eq!((summary.count, summary.longest, summary.from), (2, 5, 0));
 /// assert_eq!(summary.bands, [0, 0, 2, 0, 0, 0, 0, 0, 0, 0, 0, 0, 0]); // both lengths, 5 and 4, have three binary digits
+/// let summary = metsroeb::summarize(b"cbabacbac", &[4, 8, 9])?;
+/// assert_eq!((summary.longest, summary.from), (4, 4));
 /// # Ok::<(), metsroeb::Refusal>(())
 /// ```
 #[inline]

@@ -1,4 +1,5 @@
-/* Calls each function once on record H and compares the answers with paper 01's. */
+/* Calls each function on record H and compares the answers with paper 01's; the summary also where two parts are equally
+ * long. */
 #include "metsroeb.h"
 
 #include <stdio.h>
@@ -33,6 +34,7 @@ int main(void)
     static const uint16_t strict[] = {5, 8, 9};
     static const uint16_t table[] = {5, 2, 1, 2, 1, 3, 2, 1, 1};
     static const uint16_t bands[13] = {0, 0, 2};
+    static const uint16_t equal[] = {4, 8, 9};
     const size_t n = sizeof record;
     uint16_t work[27], ends[9], lengths[9];
     uint16_t failing = 77, prefix = 77, border = 77, count = 77, first = 77, end = 77;
@@ -74,6 +76,10 @@ int main(void)
     expect("summarize: longest", summary.longest, 5);
     expect("summarize: from", summary.from, 0);
     expect_entries("summarize: bands", summary.bands, bands, 13);
+
+    summary = metsroeb_summarize(record, n, equal, 3);
+    expect("summarize: longest of 4, 4, 1", summary.longest, 4);
+    expect("summarize: from, the latest of them", summary.from, 4);
 
     if (!differed) {
         puts("ok");

@@ -96,7 +96,7 @@ pub fn factors(ends: &[u16]) -> Vec<(u16, u16)> {
 pub fn summary(ends: &[u16]) -> Summary {
     let factors = factors(ends);
     let longest = factors.iter().map(|(from, end)| end - from).max().unwrap_or(0);
-    let from = factors.iter().find(|(from, end)| end - from == longest).map_or(0, |f| f.0);
+    let from = factors.iter().rev().find(|(from, end)| end - from == longest).map_or(0, |f| f.0);
     let digits = |(from, end): &(u16, u16)| format!("{:b}", end - from).len();
     let bands = std::array::from_fn(|band| factors.iter().filter(|f| digits(f) == band + 1).count() as u16);
     Summary { count: factors.len() as u16, longest, from, bands }

@@ -56,6 +56,26 @@ fn start_table_and_summary_of_h() {
     }
 }
 
+/// Request 101: of equally long pieces the latest. E has three of them, K two; in the last record two are neighbours, and the
+/// third is neither their neighbour nor the last piece.
+#[test]
+fn latest_of_the_longest() {
+    for (word, ends, longest, from) in [
+        (&b"baba"[..], &[4][..], 4, 0),
+        (b"abc", &[1, 2, 3], 1, 2),
+        (b"aabb", &[2, 4], 2, 2),
+        (b"dabdadacddbdc", &[3, 8, 13], 5, 8),
+        (b"aabbcdde", &[2, 4, 5, 7, 8], 2, 5),
+    ] {
+        assert_eq!(reference::icfl(word), ends);
+        let wanted = |summary: Summary| (summary.longest, summary.from) == (longest, from);
+        assert!(wanted(reference::summary(ends)));
+        for calls in BOTH {
+            assert!((calls.summarize)(word, ends).is_ok_and(wanted));
+        }
+    }
+}
+
 #[test]
 fn comparisons_in_h_and_bba() {
     for calls in BOTH {

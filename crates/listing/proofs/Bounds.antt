@@ -1,20 +1,19 @@
 -- How long the texts are: a number of at most 4,096 has at most four digits (decimal-four), a list of such numbers at most five bytes an entry
 -- (list-most), and the lines of an accepted record have together at most 41,216 bytes (total-most).
 use mathlib.Core.Path.{_≡_, refl, ap, _∙_}
-use mathlib.Core.Bool.{Bool, true, false}
+use mathlib.Core.Logic.{⊎-elim}
 use mathlib.Core.List.{List, [], _∷_, flatten}
-use Prim.Native.Nat.{ℕ, suc, _+_, _-_, _*_, _≤_, _<_}
+use Prim.Native.Nat.{ℕ, suc, _+_, _*_, _≤_, _<_}
 use native.Mathlib.Nat.{le-trans}
 use native.Mathlib.Decide.{decLt}
 use native.Mathlib.Omega.{arith}
-use lib.Dec.{eqb}
 use lib.ListN.{length, getD, length-append, List·getD-eq-default}
 use Rattle.words.specs.Words.{mostLetters}
 use Rattle.words.specs.Factorizations.{icflEnds, cflInEnds}
 use Rattle.words.specs.places.EndsRise.{Rises, done, more, rises-few, rises-inside, rises-some, icfl-ends-rise, cfl-in-ends-rise}
 use Rattle.checks.proofs.RecordLaws.{Accepted}
 use Rattle.summary.specs.Summary.{lengthsFrom, greatest, startOf, bandsOf, summaryOf}
-use Rattle.summary.proofs.SummaryLaws.{count-most, bands-length, bands-at}
+use Rattle.summary.proofs.SummaryLaws.{start-either, count-most, bands-length, bands-at}
 use Rattle.text.specs.Text.{ascii, decimal, commaEach, commaList}
 use Rattle.text.proofs.Decimals.{decimal-most}
 use Rattle.text.proofs.Texts.{line-length}
@@ -55,11 +54,7 @@ longest-most (more {b = b} {e = e} {es = es} h r) = omega (arith, longest-most r
 start-most : (m : ℕ) {n b : ℕ} {es : List ℕ} → Rises n b es → startOf m b es ≤ n
 unfolding startOf
 start-most m (done z) = omega arith
-start-most m {n} (more {b = b} {e = e} {es = es} h r) = go (eqb (e - b) m) (start-most m r) (rises-few r)
-  where
-    go : (t : Bool) → startOf m e es ≤ n → e + length es ≤ n → (elim t [ true ↦ b | false ↦ startOf m e es ]) ≤ n
-    go true ih f = omega arith
-    go false ih f = ih
+start-most m (more {b = b} {e = e} {es = es} h r) = ⊎-elim (λ z. omega (arith, z, rises-few r)) (λ z. omega (arith, z, start-most m r)) (start-either m b e es)
 
 bands-most : (es : List ℕ) (k : ℕ) → getD (bandsOf es) k 0 ≤ length es
 bands-most es k = go (decLt k 13)

@@ -1,4 +1,5 @@
--- THEOREM examples. The definitions compute paper 01's listing of record H, byte for byte; further record I, an empty record and one too long by one.
+-- THEOREM examples. The definitions compute paper 01's listing of record H, byte for byte; further record I, record E, of whose equally long pieces
+-- request 101 wants the latest, an empty record and one too long by one.
 use mathlib.Core.Path.{_≡_, refl}
 use mathlib.Core.List.{[]}
 use lib.ListN.{replicate}
@@ -10,9 +11,11 @@ pub record Examples : Type 0 where
       ≡ ascii "length=9\npieces=2\nends=5,9\nstrict=5,8,9\nlongest=5\nfrom=0\nbands=0,0,2,0,0,0,0,0,0,0,0,0,0\n"
   pub i : listingOf (ascii "cbabacaacbabacbac")
       ≡ ascii "length=17\npieces=2\nends=13,17\nstrict=8,13,16,17\nlongest=13\nfrom=0\nbands=0,0,1,1,0,0,0,0,0,0,0,0,0\n"
+  pub e : listingOf (ascii "abc")
+      ≡ ascii "length=3\npieces=3\nends=1,2,3\nstrict=1,2,3\nlongest=1\nfrom=2\nbands=3,0,0,0,0,0,0,0,0,0,0,0,0\n"
   pub empty : listingOf [] ≡ ascii "refused=1\n"
   pub long : listingOf (replicate 4097 97) ≡ ascii "refused=2\n"
 
 pub examples : Examples
 unfolding listingOf
-examples = record { h = refl; i = refl; empty = refl; long = refl }
+examples = record { h = refl; i = refl; e = refl; empty = refl; long = refl }

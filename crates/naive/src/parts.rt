@@ -31,14 +31,14 @@ pub fn longest(ends: &[u16]) -> usize {
     most
 }
 
-/// Where the earliest part of that size begins.
-pub fn earliest(ends: &[u16], size: usize) -> usize {
-    let mut k: usize = 0;
-    while k < ends.len() {
+/// Where the latest part of that size begins: the first one that is met from the right.
+pub fn latest(ends: &[u16], size: usize) -> usize {
+    let mut k = ends.len();
+    while 0 < k {
+        k -= 1;
         if part_length(ends, k) == size {
             return part_start(ends, k);
         }
-        k += 1;
     }
     0
 }

@@ -1,7 +1,7 @@
 -- What the summary's lines tell where they pass (ends-admitted): the list is one that the loop takes (summable).
 use mathlib.Core.Path.{_≡_}
 use mathlib.Core.List.{List}
-use Prim.Native.Nat.{ℕ, _≤_}
+use Prim.Native.Nat.{ℕ, _≤_, _<_}
 use native.Mathlib.Omega.{arith}
 use lib.ListN.{length}
 use Rattle.words.specs.Words.{mostLetters}
@@ -13,15 +13,17 @@ use Rattle.checks.proofs.RecordLaws.{accepted}
 use Rattle.checks.proofs.EndsLaws.{ends-accepted}
 use Rattle.summary.specs.Summary.{summaryLines, Summable}
 
--- a record that is not too long, and ends that rise to its length
+-- a record that is not too long, and ends, at least one, that rise to its length
 pub record EndsAccepted (w es : List ℕ) : Type 0 where
   pub letters : length w ≤ mostLetters
+  pub some : 0 < length es
   pub rises : Rises (length w) 0 es
 
 pub ends-admitted : (w es : List ℕ) → tried (summaryLines w es) ≡ Passed → EndsAccepted w es
 ends-admitted w es e =
     let u = unmet (summaryLines w es) e in
-    record { letters = accepted w _ e .short; rises = ends-accepted es (length w) (u .1 .1 .0) .rises }
+    let v = ends-accepted es (length w) (u .1 .1 .0) in
+    record { letters = accepted w _ e .short; some = v .some; rises = v .rises }
 
 pub summable : {w es : List ℕ} → EndsAccepted w es → Summable es
 summable v = record {

@@ -1,22 +1,47 @@
 -- The summary's definitions clause by clause: startOf and countOf by cases, the thirteen bands by their numbers.
 use mathlib.Core.Path.{_≡_, refl, ap, _∙_}
-use mathlib.Core.Bool.{Bool, true, false}
+use mathlib.Core.Bool.{Bool, true, false, _&&_}
+use mathlib.Core.Logic.{_⊎_, inl, inr}
 use mathlib.Core.List.{List, [], _∷_, map}
 use Prim.Native.Nat.{ℕ, zero, suc, _+_, _-_, _≤_, _<_}
 use native.Mathlib.Omega.{arith}
+use native.Mathlib.Decide.{ℕ-discrete}
 use native.Mathlib.Nat.{add-zero}
+use lib.Dec.{eqb}
 use lib.ListN.{length, getD}
 use borrow.Author.Tests.{eq-eqb, ne-eqb}
-use Rattle.words.specs.orders.Decisions.{Decides, holds, fails, eqb-test}
-use Rattle.summary.specs.Summary.{lengthsFrom, startOf, bitLength, countOf, bandsOf}
+use Rattle.words.specs.orders.Decisions.{Decides, holds, fails, eqb-test, decides-and, true-decides, false-decides}
+use Rattle.summary.specs.Summary.{lengthsFrom, greatest, startOf, bitLength, countOf, bandsOf}
 
-pub start-here : (n a e : ℕ) (es : List ℕ) → e - a ≡ n → startOf n a (e ∷ es) ≡ a
-unfolding startOf
-start-here n a e es h = rw (eq-eqb (e - a) n h, startOf)
+-- ---- where the latest part of length n begins
 
-pub start-later : (n a e : ℕ) (es : List ℕ) → ¬ (e - a ≡ n) → startOf n a (e ∷ es) ≡ startOf n e es
-unfolding startOf
-start-later n a e es h = rw (ne-eqb (e - a) n h, startOf)
+module _ (n a e : ℕ) (es : List ℕ) where
+  -- the first part has that length, and no later one
+  abbrev pub LatestHere : Type 0
+  LatestHere = (e - a ≡ n) × (countOf n (lengthsFrom e es) ≡ 0)
+
+  latest-test : Decides LatestHere (eqb (e - a) n && eqb (countOf n (lengthsFrom e es)) 0)
+  latest-test = decides-and (eqb-test (e - a) n) (eqb-test (countOf n (lengthsFrom e es)) 0)
+
+  abbrev byTest : Bool → ℕ
+  byTest t = elim t [ true ↦ a | false ↦ startOf n e es ]
+
+  pub start-here : LatestHere → startOf n a (e ∷ es) ≡ a
+  unfolding startOf
+  start-here h = ap byTest (true-decides latest-test h)
+
+  pub start-later : ¬ LatestHere → startOf n a (e ∷ es) ≡ startOf n e es
+  unfolding startOf
+  start-later h = ap byTest (false-decides latest-test h)
+
+  pub start-either : (startOf n a (e ∷ es) ≡ a) ⊎ (startOf n a (e ∷ es) ≡ startOf n e es)
+  start-either = decided-by latest-test
+    where
+      decided-by : {t : Bool} → Decides LatestHere t → (startOf n a (e ∷ es) ≡ a) ⊎ (startOf n a (e ∷ es) ≡ startOf n e es)
+      decided-by (holds l) = inl (start-here l)
+      decided-by (fails l) = inr (start-later l)
+
+-- ---- how many entries are k
 
 pub count-here : (k n : ℕ) (ns : List ℕ) → n ≡ k → countOf k (n ∷ ns) ≡ suc (countOf k ns)
 unfolding countOf
@@ -25,6 +50,30 @@ count-here k n ns h = rw (eq-eqb n k h, countOf)
 pub count-other : (k n : ℕ) (ns : List ℕ) → ¬ (n ≡ k) → countOf k (n ∷ ns) ≡ countOf k ns
 unfolding countOf
 count-other k n ns h = rw (ne-eqb n k h, countOf)
+
+pub count-more : (k n : ℕ) (ns : List ℕ) → countOf k ns ≤ countOf k (n ∷ ns)
+count-more k n ns = go (ℕ-discrete n k)
+  where
+    go : Dec (n ≡ k) → countOf k ns ≤ countOf k (n ∷ ns)
+    go (yes h) = omega (arith, count-here k n ns h)
+    go (no h) = omega (arith, count-other k n ns h)
+
+-- the greatest entry is counted, a larger number is not
+pub count-above : (n : ℕ) (ns : List ℕ) → greatest ns < n → countOf n ns ≡ 0
+unfolding greatest countOf
+count-above n [] h = refl
+count-above n (m ∷ ns) h = count-other n m ns (λ z. omega arith) ∙ count-above n ns (omega arith)
+
+pub count-greatest : (n : ℕ) (ns : List ℕ) → greatest ns ≡ n → 0 < n → 0 < countOf n ns
+unfolding greatest
+count-greatest n [] e h = absurd (omega arith)
+count-greatest n (m ∷ ns) e h = go (ℕ-discrete m n) (λ z. count-greatest n ns z h)
+  where
+    go : Dec (m ≡ n) → (greatest ns ≡ n → 0 < countOf n ns) → 0 < countOf n (m ∷ ns)
+    go (yes z) ih = omega (arith, count-here n m ns z)
+    go (no z) ih = omega (arith, count-other n m ns z, ih (omega arith))
+
+-- ---- the bands
 
 -- the bands of the parts that end at es, the first of which begins at a
 abbrev pub bandsFrom : ℕ → List ℕ → List ℕ

@@ -1,7 +1,8 @@
 -- The loop of sum_up over plain lists: what it has of the parts before a, taken together with the parts that follow, is the definition's value
--- for the whole list. LongestSoFar: the greatest length and where it begins. Banded: the thirteen counts. Each has a law for the start, for one more
--- part, of length e - a, and for the end. SummedUpTo: both, for the ends up to i.
+-- for the whole list. LongestSoFar: the greatest length and where the latest part of it begins. Banded: the thirteen counts. Each has a law for the
+-- start, for one more part, of length e - a, and for the end. SummedUpTo: both, for the ends up to i.
 use mathlib.Core.Path.{_≡_, refl, sym, _∙_}
+use mathlib.Core.Logic.{_⊎_, inl, inr}
 use mathlib.Core.List.{List, [], _∷_}
 use Prim.Native.Nat.{ℕ, suc, _+_, _-_, _≤_, _<_, max}
 use native.Mathlib.Decide.{ℕ-discrete}
@@ -10,7 +11,8 @@ use native.Mathlib.Numerals.{add-one}
 use lib.ListN.{length, drop, getD, set, replicate, length-set, drop-of-length-le, getD-replicate}
 use lib.Seq.{drop-cons, getD-set-same, getD-set-other, ext-getD}
 use Rattle.summary.specs.Summary.{lengthsFrom, greatest, startOf, bitLength, countOf, bandsOf, summaryOf, Summable}
-use Rattle.summary.proofs.SummaryLaws.{bandsFrom, start-here, start-later, count-here, count-other, count-most, bands-length, bands-at}
+use Rattle.summary.proofs.SummaryLaws.{start-here, start-later, count-here, count-other, count-above, count-greatest, count-most}
+use Rattle.summary.proofs.SummaryLaws.{bandsFrom, bands-length, bands-at}
 
 -- ---- the longest part
 
@@ -21,39 +23,59 @@ longestOf es = greatest (lengthsFrom 0 es)
 -- the parts that follow begin at a and end at rs
 pub record LongestSoFar (es : List ℕ) (longest from a : ℕ) (rs : List ℕ) : Type 0 where
   pub most : max longest (greatest (lengthsFrom a rs)) ≡ longestOf es
-  -- no later part is longer, or the earliest of the longest is among the later ones
-  pub settled : greatest (lengthsFrom a rs) ≤ longest → from ≡ startOf (longestOf es) 0 es
-  pub ahead : longest < greatest (lengthsFrom a rs) → startOf (longestOf es) a rs ≡ startOf (longestOf es) 0 es
+  -- before the first part
+  pub none : longest ≡ 0 → from ≡ 0
+  -- all later parts are shorter, or the latest of the longest is among them
+  pub settled : greatest (lengthsFrom a rs) < longest → from ≡ startOf (longestOf es) 0 es
+  pub ahead : longest ≤ greatest (lengthsFrom a rs) → startOf (longestOf es) a rs ≡ startOf (longestOf es) 0 es
 
--- where no part is longer than 0, the first is among the longest
-from-none : (es : List ℕ) → longestOf es ≤ 0 → 0 ≡ startOf (longestOf es) 0 es
-unfolding lengthsFrom greatest startOf
-from-none [] h = refl
-from-none (e ∷ es) h = sym (start-here (longestOf (e ∷ es)) 0 e es (omega arith))
+-- n is kept beside a part that is shorter than the longest before it, and is new beside any other
+abbrev pub Chosen : (size longest kept new n : ℕ) → Type 0
+Chosen size longest kept new n = ((size < longest) × (n ≡ kept)) ⊎ ((longest ≤ size) × (n ≡ new))
 
 longest-start : (es : List ℕ) → LongestSoFar es 0 0 0 es
-longest-start es = record { most = omega arith; settled = from-none es; ahead = λ h. refl }
+longest-start es = record { most = omega arith; none = λ z. refl; settled = λ h. absurd (omega arith); ahead = λ h. refl }
 
 module _ {es rs : List ℕ} {longest from a e : ℕ} (g : LongestSoFar es longest from a (e ∷ rs)) where
   most-next : max longest (max (e - a) (greatest (lengthsFrom e rs))) ≡ longestOf es
   unfolding lengthsFrom greatest
   most-next = g .most
 
-  longest-kept : e - a ≤ longest → LongestSoFar es longest from e rs
+  longest-kept : e - a < longest → LongestSoFar es longest from e rs
   unfolding lengthsFrom greatest
   longest-kept h = record {
     most = omega (arith, most-next);
+    none = g .none;
     settled = λ l. g .settled (omega arith);
-    ahead = λ l. sym (start-later (longestOf es) a e rs (λ z. omega (arith, most-next))) ∙ g .ahead (omega arith);
+    ahead = λ l. sym (start-later (longestOf es) a e rs (λ z. omega (arith, z .0, most-next))) ∙ g .ahead (omega arith);
   }
 
-  longest-replaced : longest < e - a → LongestSoFar es (e - a) a e rs
+  longest-replaced : longest ≤ e - a → 0 < e - a → LongestSoFar es (e - a) a e rs
   unfolding lengthsFrom greatest
-  longest-replaced h = record {
+  longest-replaced h p = record {
     most = omega (arith, most-next);
-    settled = λ l. sym (start-here (longestOf es) a e rs (omega (arith, most-next))) ∙ g .ahead (omega arith);
-    ahead = λ l. sym (start-later (longestOf es) a e rs (λ z. omega (arith, most-next))) ∙ g .ahead (omega arith);
+    none = λ z. absurd (omega arith);
+    settled = λ l.
+        let here = count-above (longestOf es) (lengthsFrom e rs) (omega (arith, most-next)) in
+        sym (start-here (longestOf es) a e rs (omega (arith, most-next), here)) ∙ g .ahead (omega arith);
+    ahead = λ l.
+        let later = count-greatest (longestOf es) (lengthsFrom e rs) (omega (arith, most-next)) (omega (arith, most-next)) in
+        sym (start-later (longestOf es) a e rs (λ z. omega (arith, z .1, later))) ∙ g .ahead (omega arith);
   }
+
+  longest-next : {m f : ℕ} → 0 < e - a → Chosen (e - a) longest from a f → Chosen (e - a) longest longest (e - a) m → LongestSoFar es m f e rs
+  longest-next p (inl x) (inl y) = rw (x .1, y .1) (longest-kept (x .0))
+  longest-next p (inl x) (inr y) = absurd (omega (arith, x .0, y .0))
+  longest-next p (inr x) (inl y) = absurd (omega (arith, x .0, y .0))
+  longest-next p (inr x) (inr y) = rw (x .1, y .1) (longest-replaced (x .0) p)
+
+longest-end : {es : List ℕ} {longest from a : ℕ} → LongestSoFar es longest from a [] → from ≡ startOf (longestOf es) 0 es
+unfolding lengthsFrom greatest startOf
+longest-end {es} {longest} {from} g = go (ℕ-discrete longest 0)
+  where
+    go : Dec (longest ≡ 0) → from ≡ startOf (longestOf es) 0 es
+    go (yes z) = g .none z ∙ g .ahead (omega arith)
+    go (no z) = g .settled (omega arith)
 
 -- ---- the counts
 
@@ -119,20 +141,15 @@ module _ {es bands : List ℕ} {longest from last i : ℕ} (g : SummedUpTo es lo
     next-bands : Banded es bands last (getD es i 0 ∷ drop (suc i) es)
     next-bands = rw (drop-cons es i 0 l) at (g .bands-are)
 
-    module _ (digits : ℕ) (b : digits ≡ bitLength (getD es i 0 - last)) (p : 0 < digits) where
-      summed-next : (m f : ℕ) → LongestSoFar es m f (getD es i 0) (drop (suc i) es) → SummedUpTo es m f (countedAt (digits - 1) bands) (getD es i 0) (i + 1)
-      summed-next m f n = record {
-        inside = omega arith;
-        last-is = rw (add-one i);
-        longest-is = rw (add-one i) n;
-        bands-are = rw (add-one i) (banded-next digits next-bands b p);
-      }
-
-      pub summed-kept : getD es i 0 - last ≤ longest → SummedUpTo es longest from (countedAt (digits - 1) bands) (getD es i 0) (i + 1)
-      summed-kept h = summed-next longest from (longest-kept next-longest h)
-
-      pub summed-replaced : longest < getD es i 0 - last → SummedUpTo es (getD es i 0 - last) last (countedAt (digits - 1) bands) (getD es i 0) (i + 1)
-      summed-replaced h = summed-next _ last (longest-replaced next-longest h)
+    pub summed-next : {m f digits : ℕ} → last < getD es i 0 → Chosen (getD es i 0 - last) longest from last f
+        → Chosen (getD es i 0 - last) longest longest (getD es i 0 - last) m → digits ≡ bitLength (getD es i 0 - last) → 0 < digits
+        → SummedUpTo es m f (countedAt (digits - 1) bands) (getD es i 0) (i + 1)
+    summed-next {digits = digits} above x y b p = record {
+      inside = omega arith;
+      last-is = rw (add-one i);
+      longest-is = rw (add-one i) (longest-next next-longest (omega arith) x y);
+      bands-are = rw (add-one i) (banded-next digits next-bands b p);
+    }
 
   pub summed-end : length es ≤ i → record { refusal = 0; count = i; longest = longest; from = from; bands = bands } ≡ summaryOf es
   unfolding summaryOf lengthsFrom greatest
@@ -141,6 +158,6 @@ module _ {es bands : List ℕ} {longest from last i : ℕ} (g : SummedUpTo es lo
       let n : LongestSoFar es longest from last [] = rw none at (g .longest-is) in
       let count : i ≡ length es = omega (arith, g .inside) in
       let most : longest ≡ longestOf es = omega (arith, n .most) in
-      let start = n .settled (omega arith) in
+      let start = longest-end n in
       let all = banded-end es bands last (rw none at (g .bands-are)) in
       λ t. record { refusal = 0; count = count t; longest = most t; from = start t; bands = all t }

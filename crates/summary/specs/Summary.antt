@@ -1,6 +1,7 @@
--- DEFINITIONS. The summary: "the number of pieces; the longest piece's length and first place, the earliest among equals; and the band counts".
+-- DEFINITIONS. The summary: "the number of pieces; the longest piece's length and first place, .. and the band counts". Request 101: "The summary
+-- shall name the latest of the longest pieces."
 use mathlib.Core.Path.{_≡_}
-use mathlib.Core.Bool.{true, false}
+use mathlib.Core.Bool.{true, false, _&&_}
 use mathlib.Core.List.{List, [], _∷_, _++_, map}
 use Prim.Native.Nat.{ℕ, zero, suc, _-_, _/_, _≤_, _<_, max}
 use lib.ListN.{length, getD, replicate}
@@ -23,10 +24,17 @@ unfoldable pub greatest : List ℕ → ℕ
 greatest [] = 0
 greatest (n ∷ ns) = max n (greatest ns)
 
--- where the earliest part of length n begins, 0 if no part has that length; the parts as in lengthsFrom
+-- how many entries are k
+unfoldable pub countOf : ℕ → List ℕ → ℕ
+countOf k [] = 0
+countOf k (n ∷ ns) = elim (eqb n k) [ true ↦ suc (countOf k ns) | false ↦ countOf k ns ]
+
+-- where the latest part of length n begins: it has that length, and no part after it has; 0 if none has it; the parts as in lengthsFrom. What that
+-- says of the longest part is a law (proofs/LatestLongest, summary-latest).
 unfoldable pub startOf : ℕ → ℕ → List ℕ → ℕ
+unfolding lengthsFrom countOf
 startOf n a [] = 0
-startOf n a (e ∷ es) = elim (eqb (e - a) n) [ true ↦ a | false ↦ startOf n e es ]
+startOf n a (e ∷ es) = elim (eqb (e - a) n && eqb (countOf n (lengthsFrom e es)) 0) [ true ↦ a | false ↦ startOf n e es ]
 
 -- the number of binary digits of an n below 2 ^ k: halving drops the last digit, and 0 has none
 unfoldable pub bitLengthWithin : ℕ → ℕ → ℕ
@@ -37,11 +45,6 @@ bitLengthWithin (suc k) (suc n) = suc (bitLengthWithin k (suc n / 2))
 unfoldable pub bitLength : ℕ → ℕ
 unfolding bitLengthWithin
 bitLength n = bitLengthWithin 16 n
-
--- how many entries are k
-unfoldable pub countOf : ℕ → List ℕ → ℕ
-countOf k [] = 0
-countOf k (n ∷ ns) = elim (eqb n k) [ true ↦ suc (countOf k ns) | false ↦ countOf k ns ]
 
 -- "A piece's band is the number of binary digits of its length, 1 to 13": how many parts each band has
 unfoldable pub bandsOf : List ℕ → List ℕ

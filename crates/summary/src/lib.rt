@@ -14,7 +14,7 @@ pub struct Summary {
     pub count: u16,
     /// The greatest length of a part.
     pub longest: u16,
-    /// Where the earliest part of that length begins.
+    /// Where the latest part of that length begins.
     pub from: u16,
     /// At k: how many parts have a length of k + 1 binary digits.
     pub bands: [u16; 13],
@@ -50,7 +50,7 @@ impl Summary {
     }
 }
 
-// The summary of the parts that a list of ends marks. Only a longer part takes the place of the longest.
+// The summary of the parts that a list of ends marks. A part takes the place of the longest before it unless it is shorter.
 fn sum_up(ends: &[u16]) -> Summary
     requires { ⌜ Summable (now ends) ⌝ }
     ensures { λ r. ⌜ r ≡ summaryOf (now (ends .entry)) ⌝ }
@@ -63,10 +63,8 @@ fn sum_up(ends: &[u16]) -> Summary
     while i < ends.len() {
         let end = ends[i];
         let size = end - last;
-        if longest < size {
-            longest = size;
-            from = last;
-        }
+        from = if size < longest { from } else { last };
+        longest = if size < longest { longest } else { size };
         let band = bit_length(size) - 1;
         bands[band] += 1;
         last = end;

@@ -38,7 +38,7 @@ fn are_bands(bands: &[u16], ends: &[u16]) -> bool {
 // Whether the numbers of a summary are those of the parts.
 fn is_summary(summary: Summary, parts: &[u16]) -> bool {
     let longest = naive::longest(parts);
-    let from = naive::earliest(parts, longest);
+    let from = naive::latest(parts, longest);
     let bands = summary.bands;
     let placed = (summary.longest as usize == longest) & (summary.from as usize == from);
     placed & (summary.count as usize == parts.len()) & are_bands(&bands, parts)

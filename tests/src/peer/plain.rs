@@ -181,7 +181,7 @@ pub fn summarize(record: &[u8], ends: &[u16]) -> Summary {
         let length = end - last;
         summary.count += 1;
         summary.bands[15 - length.leading_zeros() as usize] += 1;
-        if summary.longest < length {
+        if summary.longest <= length {
             (summary.longest, summary.from) = (length, last);
         }
         last = end;

@@ -1,12 +1,12 @@
 -- What is summed up so far, together with the parts that follow, is the definition's summary. A part has 1 to 4,096 letters, so its band is one of the
 -- thirteen; and no count is above the number of ends, so none wraps.
 use borrow.Author.Needs.{needs}
-use mathlib.Core.Logic.{⊎-elim}
+use mathlib.Core.Logic.{⊎-map}
 use Prim.Native.Nat.{_-_, _≤_, _<_}
 use native.Mathlib.Omega.{arith}
 use lib.ListN.{length, getD}
 use Rattle.summary.proofs.BitLengths.{bit-length-some, bit-length-most}
-use Rattle.summary.proofs.Summing.{SummedUpTo, summed-start, summed-above, summed-room, summed-kept, summed-replaced, summed-end}
+use Rattle.summary.proofs.Summing.{SummedUpTo, summed-start, summed-above, summed-room, summed-next, summed-end}
 use Rattle.summary.proofs.sum_up.Statement.{statement}
 use Rattle.summary.proofs.sum_up.Tie as tie
 
@@ -22,7 +22,7 @@ above-at c = summed-above (c .before .loop .inv) (c .loop-test .taken) (c .befor
 -- a band that is counted
 band-at : (c : tie.After-bit-length Inv-loop μ-loop) → (1 ≤ c .bit-length .result) × (c .bit-length .result ≤ 13)
 band-at c =
-    let turn = c .before .before .before in
+    let turn = c .before .before .before .before in
     let short = turn .before .before .before .pre .short (turn .before .loop .i) in
     rw (c .bit-length .ensures) (bit-length-some _ (omega (arith, above-at turn)), bit-length-most _ (omega (arith, short)))
 
@@ -52,7 +52,7 @@ array-read-bands c = omega (arith, band-at c)
 
 add-bands : tie.Need-add-bands Inv-loop μ-loop
 add-bands c =
-    let at-loop = c .before .before .before .before in
+    let at-loop = c .before .before .before .before .before in
     omega (arith, summed-room (at-loop .loop .inv) (c .bit-length .result - 1) (omega (arith, band-at c)), at-loop .before .before .pre .few)
 
 array-write-bands : tie.Need-array-write-bands Inv-loop μ-loop
@@ -66,16 +66,14 @@ loop-less c = search needs
 
 loop-again : tie.Need-loop-again Inv-loop μ-loop
 loop-again c =
-    let turn = c .before .before .before in
-    let at-loop = turn .before in
-    let digits = c .bit-length .ensures in
-    ⊎-elim
-    (λ w. rw (w .1, w .2) (summed-replaced (at-loop .loop .inv) (turn .loop-test .taken) _ digits (band-at c .0) (w .0 .taken)))
-    (λ w. rw (w .1, w .2) (summed-kept (at-loop .loop .inv) (turn .loop-test .taken) _ digits (band-at c .0) (w .0 .left)))
-    (c .before .if1 .came)
+    let turn = c .before .before .before .before in
+    summed-next (turn .before .loop .inv) (turn .loop-test .taken) (above-at turn)
+    (⊎-map (λ x. (omega (arith, x .0 .taken), x .1)) (λ x. (omega (arith, x .0 .left), x .1)) (c .before .before .if1 .came))
+    (⊎-map (λ x. (omega (arith, x .0 .taken), x .1)) (λ x. (omega (arith, x .0 .left), x .1)) (c .before .if2 .came))
+    (c .bit-length .ensures) (band-at c .0)
 
-cast-t17 : tie.Need-cast-t17 Inv-loop μ-loop
-cast-t17 c = omega (arith, c .before .loop .inv .inside, c .before .before .before .pre .few)
+cast-t19 : tie.Need-cast-t19 Inv-loop μ-loop
+cast-t19 c = omega (arith, c .before .loop .inv .inside, c .before .before .before .pre .few)
 
 returns : tie.Need-returns Inv-loop μ-loop
 returns c = summed-end (c .before .loop .inv) (c .loop-test .left)
@@ -84,4 +82,4 @@ pub sum-up-spec : {M : Type 1} → statement M
 sum-up-spec =
     tie.close
     (tie.spec Inv-loop μ-loop loop-holds mul-end shared-slice-read-end sub-size bit-length-requires sub-band mul-bands array-read-bands add-bands
-    array-write-bands add-i loop-less loop-again cast-t17 returns)
+    array-write-bands add-i loop-less loop-again cast-t19 returns)

@@ -1,0 +1,107 @@
+-- What the summary's definitions say of the longest part, to hold them against: a part of the length that they give begins at the place that they give,
+-- no part is longer, and no later part has that length (latest-longest; summary-latest, of every result of the summary). No other two numbers are so
+-- (latest-only). The parts are those of demand 3: they lie between neighbouring ends, the first from 0.
+use mathlib.Core.Path.{_≡_, refl}
+use mathlib.Core.Logic.{⊎-elim}
+use mathlib.Core.List.{List, [], _∷_}
+use Prim.Native.Nat.{ℕ, _+_, _-_, _≤_, _<_}
+use native.Mathlib.Decide.{ℕ-discrete}
+use native.Mathlib.Omega.{arith}
+use lib.ListN.{length}
+use Rattle.words.specs.orders.Decisions.{neither-less}
+use Rattle.words.specs.Statements.{Adjacent, here, there, Part}
+use Rattle.words.specs.places.Ends.{adjacent-cases, adjacent-one}
+use Rattle.words.specs.places.EndsRise.{Rises, done, more}
+use Rattle.words.specs.places.Parts.{rises-adjacent}
+use Rattle.checks.specs.declared.Checked.{Checked}
+use Rattle.checks.specs.declared.Checked.the-variants.{Passed, Refused}
+use Rattle.checks.specs.Lines.{tried, decided}
+use Rattle.checks.specs.Answers.{numberOf}
+use Rattle.checks.proofs.LineLaws.{not-both, zero-passes}
+use Rattle.summary.specs.declared.Summary.{Summary}
+use Rattle.summary.specs.Summary.{summaryLines, lengthsFrom, greatest, startOf, countOf, summaryOf, emptySummary, Summarized}
+use Rattle.summary.proofs.EndsAdmitted.{EndsAccepted, ends-admitted}
+use Rattle.summary.proofs.SummaryLaws.{start-here, start-later, count-here, count-other, count-more, count-greatest}
+
+pub record LatestLongest (es : List ℕ) (longest from : ℕ) : Type 0 where
+  -- a part of that length begins at that place
+  pub begins : Part es from (from + longest)
+  -- no part is longer
+  pub most : (i j : ℕ) → Part es i j → j - i ≤ longest
+  -- no later part has that length
+  pub latest : (i j : ℕ) → Part es i j → from < i → ¬ (j - i ≡ longest)
+
+pub latest-only : {es : List ℕ} {m n f g : ℕ} → LatestLongest es m f → LatestLongest es n g → (m ≡ n) × (f ≡ g)
+latest-only {es} {m} {n} {f} {g} x y =
+    let same : m ≡ n = omega (arith, x .most g (g + n) (y .begins), y .most f (f + m) (x .begins)) in
+    (same, neither-less (λ l. x .latest g (g + n) (y .begins) l (omega arith)) (λ l. y .latest f (f + m) (x .begins) l (omega arith)))
+
+-- ---- the parts, one by one
+
+greatest-most : (es : List ℕ) {a i j : ℕ} → Adjacent i j (a ∷ es) → j - i ≤ greatest (lengthsFrom a es)
+unfolding lengthsFrom greatest
+greatest-most [] p = absurd (adjacent-one p)
+greatest-most (e ∷ es) {a} {i} {j} p =
+    ⊎-elim (λ q. omega (arith, q .0, q .1)) (λ q. omega (arith, greatest-most es q)) (adjacent-cases p)
+
+greatest-some : {n a : ℕ} {es : List ℕ} → Rises n a es → 0 < length es → 0 < greatest (lengthsFrom a es)
+unfolding lengthsFrom greatest
+greatest-some (done z) l = absurd (omega arith)
+greatest-some (more h r) l = omega arith
+
+-- a part of length n is counted
+part-counted : (n : ℕ) (es : List ℕ) {a i j : ℕ} → Adjacent i j (a ∷ es) → j - i ≡ n → 0 < countOf n (lengthsFrom a es)
+unfolding lengthsFrom
+part-counted n [] p z = absurd (adjacent-one p)
+part-counted n (e ∷ es) {a} {i} {j} p z =
+    ⊎-elim
+    (λ q. omega (arith, count-here n (e - a) (lengthsFrom e es) (omega (arith, q .0, q .1))))
+    (λ q. omega (arith, count-more n (e - a) (lengthsFrom e es), part-counted n es q z))
+    (adjacent-cases p)
+
+-- ---- the place
+
+-- the parts lie between neighbouring places
+record LatestOf (n from : ℕ) (places : List ℕ) : Type 0 where
+  begins : Adjacent from (from + n) places
+  latest : (i j : ℕ) → Adjacent i j places → from < i → ¬ (j - i ≡ n)
+
+module _ (n : ℕ) {a e : ℕ} {es : List ℕ} where
+  -- the first part is the last of length n
+  latest-here : a < e → e - a ≡ n → countOf n (lengthsFrom e es) ≡ 0 → LatestOf n a (a ∷ e ∷ es)
+  latest-here l z c = record {
+    begins = rw (let y : a + n ≡ e = omega arith in y) here;
+    latest = λ i j p f y. ⊎-elim (λ q. omega (arith, q .0)) (λ q. omega (arith, part-counted n es q y)) (adjacent-cases p);
+  }
+
+  latest-there : {m from : ℕ} → a < e → Rises m e es → LatestOf n from (e ∷ es) → LatestOf n from (a ∷ e ∷ es)
+  latest-there {from = from} l r x = record {
+    begins = there (x .begins);
+    latest = λ i j p f y. ⊎-elim (λ q. omega (arith, q .0, rises-adjacent r (x .begins) .0)) (λ q. x .latest i j q f y) (adjacent-cases p);
+  }
+
+start-latest : (n : ℕ) {m a : ℕ} {es : List ℕ} → Rises m a es → 0 < countOf n (lengthsFrom a es) → LatestOf n (startOf n a es) (a ∷ es)
+unfolding lengthsFrom countOf
+start-latest n (done z) h = absurd (omega arith)
+start-latest n (more {b = a} {e = e} {es = es} l r) h = go (ℕ-discrete (e - a) n) (ℕ-discrete (countOf n (lengthsFrom e es)) 0) (start-latest n r)
+  where
+    go : Dec (e - a ≡ n) → Dec (countOf n (lengthsFrom e es) ≡ 0) → (0 < countOf n (lengthsFrom e es) → LatestOf n (startOf n e es) (e ∷ es))
+        → LatestOf n (startOf n a (e ∷ es)) (a ∷ e ∷ es)
+    go (yes y) (yes c) ih = rw (start-here n a e es (y, c)) (latest-here n l y c)
+    go (yes y) (no c) ih = rw (start-later n a e es (λ q. c (q .1))) (latest-there n l r (ih (omega arith)))
+    go (no y) d ih = rw (start-later n a e es (λ q. y (q .0))) (latest-there n l r (ih (omega (arith, h, count-other n (e - a) (lengthsFrom e es) y))))
+
+pub latest-longest : {n : ℕ} {es : List ℕ} → Rises n 0 es → 0 < length es
+    → let longest = greatest (lengthsFrom 0 es) in LatestLongest es longest (startOf longest 0 es)
+latest-longest {es = es} r l =
+    let x = start-latest (greatest (lengthsFrom 0 es)) r (count-greatest _ (lengthsFrom 0 es) refl (greatest-some r l)) in
+    record { begins = x .begins; most = λ i j p. greatest-most es p; latest = x .latest }
+
+pub summary-latest : {w es : List ℕ} {r : Summary} → Summarized w es r → r .refusal ≡ 0 → LatestLongest es (r .longest) (r .from)
+unfolding summaryOf
+summary-latest {w} {es} s z = rw (s .answer) (go (tried (summaryLines w es)) (zero-passes (summaryLines w es) refl) (ends-admitted w es) (rw (s .answer) at z))
+  where
+    go : (k : Checked) → (numberOf k ≡ 0 → k ≡ Passed) → (k ≡ Passed → EndsAccepted w es) → decided k (summaryOf es) emptySummary .refusal ≡ 0
+        → LatestLongest es (decided k (summaryOf es) emptySummary .longest) (decided k (summaryOf es) emptySummary .from)
+    go Passed p g z = latest-longest (g refl .rises) (g refl .some)
+    go (Refused e) p g z = absurd (not-both refl (p z))
