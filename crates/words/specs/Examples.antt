@@ -1,30 +1,35 @@
 -- THEOREM examples. The records of paper 01 with known answers, computed from the definitions: one table, one theorem.
 -- Beside paper 01's rows: baababb tells "join at |r|" from "join below |r|"; the word of 31 letters joins twice, one join
--- inside the other; aaab and cbabcbad tell the shortest r from the longest.
+-- inside the other; aaab and cbabcbad tell the shortest r from the longest. Breaks (request 102) of I, of these, and of a falling record.
 use mathlib.Core.Path.{_≡_, refl}
 use mathlib.Core.List.{List, [], _∷_, map}
 use Prim.Native.Nat.{ℕ}
 use lib.IntN.{ℤ, pos, negsuc}
 use Rattle.words.specs.Words.{sign}
-use Rattle.words.specs.Factorizations.{failingLength, prefixLength, borderLength, icflEnds, cflInEnds, lyndonTable}
+use Rattle.words.specs.Factorizations.{failingLength, prefixLength, borderLength, icflEnds, icflBreaks, cflInEnds, lyndonTable}
+use Rattle.words.specs.declared.Fate.the-variants.{Kept, Joined}
+use Rattle.words.specs.declared.Break.{Break}
 
 pub data Question : Type 0 where
   cuts : List ℕ → Question
   table : List ℕ → Question
   test : List ℕ → Question
+  reasons : List ℕ → Question
   comparison : List ℕ → (first end start other : ℕ) → Question
 
 pub data Answer : Type 0 where
   ends : (pieces strict : List ℕ) → Answer
   lengths : List ℕ → Answer
   fails : (failing prefix border : ℕ) → Answer
+  breaks : List Break → Answer
   signed : ℤ → Answer
 
 unfoldable pub answer : Question → Answer
-unfolding icflEnds cflInEnds lyndonTable failingLength prefixLength borderLength sign
+unfolding icflEnds icflBreaks cflInEnds lyndonTable failingLength prefixLength borderLength sign
 answer (cuts w) = ends (icflEnds w) (cflInEnds w)
 answer (table w) = lengths (lyndonTable w)
 answer (test w) = fails (failingLength w) (prefixLength w) (borderLength w)
+answer (reasons w) = breaks (icflBreaks w)
 answer (comparison w first end start other) = signed (sign w first end start other)
 
 -- ---- the table: letters stand for their ASCII codes
@@ -40,6 +45,13 @@ c = 99
 
 abbrev pub d : ℕ
 d = 100
+
+-- a break at a place, with the place where its step began and |r|
+abbrev keptAt : (place begun border a b : ℕ) → Break
+keptAt place begun border a b = record { place = place; begun = begun; border = border; fate = Kept a b }
+
+abbrev joinedAt : (place begun border shortfall : ℕ) → Break
+joinedAt place begun border shortfall = record { place = place; begun = begun; border = border; fate = Joined shortfall }
 
 infix 20 _gives_
 pub data Row : Type 0 where
@@ -74,6 +86,11 @@ rows =
     ∷ (test (c ∷ b ∷ a ∷ b ∷ a ∷ c ∷ a ∷ a ∷ c ∷ b ∷ a ∷ b ∷ a ∷ c ∷ b ∷ a ∷ c ∷ []) gives fails 15 8 6)
     ∷ (test (a ∷ a ∷ a ∷ b ∷ []) gives fails 4 3 0)
     ∷ (test (c ∷ b ∷ a ∷ b ∷ c ∷ b ∷ a ∷ d ∷ []) gives fails 8 7 0)
+    ∷ (reasons (c ∷ b ∷ a ∷ b ∷ a ∷ c ∷ a ∷ a ∷ c ∷ b ∷ a ∷ b ∷ a ∷ c ∷ b ∷ a ∷ c ∷ []) gives breaks (joinedAt 8 0 6 1 ∷ keptAt 13 8 3 b c ∷ []))  -- I
+    ∷ (reasons (b ∷ a ∷ a ∷ b ∷ a ∷ b ∷ b ∷ []) gives breaks (joinedAt 3 0 2 0 ∷ keptAt 5 3 1 a b ∷ []))
+    ∷ (reasons twoJoins gives breaks (joinedAt 14 0 13 0 ∷ joinedAt 22 14 6 1 ∷ keptAt 27 22 3 b c ∷ []))
+    ∷ (reasons (a ∷ a ∷ a ∷ b ∷ []) gives breaks (keptAt 3 0 0 a b ∷ []))
+    ∷ (reasons (b ∷ a ∷ b ∷ a ∷ []) gives breaks [])
     ∷ (comparison (c ∷ b ∷ a ∷ b ∷ a ∷ c ∷ b ∷ a ∷ c ∷ []) 0 9 0 5 gives signed (pos 1))
     ∷ (comparison (c ∷ b ∷ a ∷ b ∷ a ∷ c ∷ b ∷ a ∷ c ∷ []) 5 9 5 8 gives signed (pos 1))
     ∷ (comparison (b ∷ b ∷ a ∷ []) 0 2 0 1 gives signed (pos 1))

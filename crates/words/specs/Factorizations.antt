@@ -6,6 +6,9 @@ use Prim.Native.Nat.{ℕ, zero, suc, _+_, _-_, _*_}
 use lib.ListN.{length, take, drop, getD}
 use lib.Dec.{leb, ltb}
 use Rattle.words.specs.Words.{isSame, isInverseLyndon, isAntiLyndon}
+use Rattle.words.specs.declared.Fate.{Fate}
+use Rattle.words.specs.declared.Fate.the-variants.{Kept, Joined}
+use Rattle.words.specs.declared.Break.{Break}
 
 -- the least of i, i + 1, .. that passes the test, or i + k where the first k of them fail
 unfoldable pub least : (ℕ → Bool) → ℕ → ℕ → ℕ
@@ -53,6 +56,34 @@ icflWithin (suc k) (a ∷ w) = elim (isInverseLyndon (a ∷ w)) [
 unfoldable pub icfl : List ℕ → List (List ℕ)
 unfolding icflWithin
 icfl w = icflWithin (length w) w
+
+-- a break's fate, by joinFirst's comparison: "kept with the two bytes a and b that differed, or joined with the number |r| less the joined piece's length"
+unfoldable pub fateOf : ℕ → ℕ → ℕ → List (List ℕ) → Fate
+fateOf a b r [] = Kept a b
+fateOf a b r (m ∷ ms) = elim (leb (length m) r) [ true ↦ Joined (r - length m) | false ↦ Kept a b ]
+
+-- the breaks of a word that begins at place i (request 102): "every break the cut considered ..; the breaks run from left to right: the place where p ends,
+-- the place where that step began, and |r|". Step, then the rest, as icflWithin.
+unfoldable pub breaksWithin : ℕ → ℕ → List ℕ → List Break
+unfolding isInverseLyndon prefixLength borderLength icfl fateOf
+breaksWithin zero i w = []
+breaksWithin (suc k) i [] = []
+breaksWithin (suc k) i (a ∷ w) = elim (isInverseLyndon (a ∷ w)) [
+  | true ↦ []
+  | false ↦
+      let p : ℕ = prefixLength (a ∷ w) in
+      let r : ℕ = borderLength (a ∷ w) in
+      let fate : Fate = fateOf (getD (a ∷ w) r 0) (getD (a ∷ w) (p + r) 0) r (icfl (drop p (a ∷ w))) in
+      record { place = i + p; begun = i; border = r; fate = fate } ∷ breaksWithin k (i + p) (drop p (a ∷ w))
+]
+
+unfoldable pub breaksFrom : ℕ → List ℕ → List Break
+unfolding breaksWithin
+breaksFrom i w = breaksWithin (length w) i w
+
+unfoldable pub icflBreaks : List ℕ → List Break
+unfolding breaksFrom
+icflBreaks w = breaksFrom 0 w
 
 -- the greatest n ≤ k such that the first n letters are an anti-Lyndon word; 0 where there is none
 unfoldable pub longestWithin : ℕ → List ℕ → ℕ

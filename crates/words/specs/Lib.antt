@@ -45,5 +45,6 @@ pub mod icfl
 pub mod uniqueness
 pub mod cfl_in
 pub mod places
+pub mod breaks
 pub mod scan
 pub mod table

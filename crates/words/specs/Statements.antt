@@ -1,13 +1,16 @@
--- DEFINITIONS. What is said of a list of words, of one step of the piece cut, and demand 3 of a word. The product of a list of words is the library's
--- flatten.
+-- DEFINITIONS. What is said of a list of words, of one step of the piece cut, of its breaks, and demand 3 of a word. The product of a list of words is the
+-- library's flatten.
 use mathlib.Core.Path.{_≡_}
 use mathlib.Core.Logic.{_⊎_}
 use mathlib.Core.List.{List, [], _∷_, _++_, flatten, List·Memᴰ}
-use Prim.Native.Nat.{ℕ, _-_, _≤_, _<_}
-use lib.ListN.{length, take}
+use Prim.Native.Nat.{ℕ, suc, _+_, _-_, _≤_, _<_}
+use lib.ListN.{length, take, drop, getD}
 use lib.Seq.{slice}
 use Rattle.words.specs.Words.{_≪_, _⊑_, _<ₗ_, _≺_, InverseLyndon, AntiLyndon, sign}
-use Rattle.words.specs.Factorizations.{icflEnds, cflInEnds}
+use Rattle.words.specs.Factorizations.{icfl, icflEnds, cflInEnds}
+use Rattle.words.specs.declared.Fate.{Fate}
+use Rattle.words.specs.declared.Fate.the-variants.{Kept, Joined}
+use Rattle.words.specs.declared.Break.{Break}
 
 -- m has R to the first word of the list, if there is one
 pub data Next (R : List ℕ → List ℕ → Type 0) (m : List ℕ) : List (List ℕ) → Type 0 where
@@ -51,6 +54,53 @@ pub record BoundedExtension (w : List ℕ) (failing prefix border : ℕ) : Type 
   pub least : (k : ℕ) → k < border → ¬ BorderedBy k (take failing w)
   -- "The first L − |r| − 1 bytes are p."
   pub before : prefix ≡ failing - border - 1
+
+-- ---- breaks (request 102)
+
+-- from place i to place n: the first step begins at i and each later one where the break before it lies; the places rise, and lie before n
+pub data Chained (n : ℕ) : ℕ → List Break → Type 0 where
+  end : {i : ℕ} → i < n → Chained n i []
+  next : {b : Break} {bs : List Break} → b .begun < b .place → Chained n (b .place) bs → Chained n (b .begun) (b ∷ bs)
+
+-- the places of the kept breaks
+abbrev pub placeIfKept : Fate → ℕ → List ℕ → List ℕ
+placeIfKept (Kept a b) place es = place ∷ es
+placeIfKept (Joined shortfall) place es = es
+
+unfoldable pub keptPlaces : List Break → List ℕ
+keptPlaces [] = []
+keptPlaces (b ∷ bs) = placeIfKept (b .fate) (b .place) (keptPlaces bs)
+
+-- j is the first of the ends after i
+pub record NextEnd (es : List ℕ) (i j : ℕ) : Type 0 where
+  pub among : List·Memᴰ j es
+  pub after : i < j
+  pub first : (e : ℕ) → List·Memᴰ e es → i < e → j ≤ e
+
+-- the joined piece is the first one of what follows the place, and runs to the next piece end; s is what it lacks of |r|
+pub record JoinedTo (w : List ℕ) (place border s : ℕ) : Type 0 where
+  pub piece : List ℕ
+  pub others : List (List ℕ)
+  pub first : icfl (drop place w) ≡ piece ∷ others
+  pub lacks : s + length piece ≡ border
+  pub below : s < border
+  pub ends : NextEnd (icflEnds w) place (place + length piece)
+
+pub record BreaksOf (w : List ℕ) (bs : List Break) : Type 0 where
+  pub chained : Chained (length w) 0 bs
+  pub few : length bs < length w
+  -- "The kept breaks and the record's end are exactly the piece ends."
+  pub ends : keptPlaces bs ++ length w ∷ [] ≡ icflEnds w
+  -- "the place where p ends, the place where that step began, and |r|"
+  pub step : (b : Break) → List·Memᴰ b bs
+      → BoundedExtension (drop (b .begun) w) (suc (b .place - b .begun + b .border)) (b .place - b .begun) (b .border)
+  -- "kept with the two bytes a and b that differed"
+  pub letters : (k : Break) (a b : ℕ) → List·Memᴰ k bs → k .fate ≡ Kept a b
+      → (a ≡ getD w (k .begun + k .border) 0) × (b ≡ getD w (k .place + k .border) 0) × (a < b)
+  -- "or joined with the number |r| less the joined piece's length"
+  pub joined : (b : Break) (s : ℕ) → List·Memᴰ b bs → b .fate ≡ Joined s → JoinedTo w (b .place) (b .border) s
+
+-- ---- ends
 
 -- j follows i in the list
 pub data Adjacent (i j : ℕ) : List ℕ → Type 0 where

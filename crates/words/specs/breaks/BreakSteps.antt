@@ -1,0 +1,166 @@
+-- The breaks as a walk over the word: Steps w i bs says that bs are the breaks of what follows place i. Steps are breaksFrom (breaks-steps), each makes the ends
+-- of the word from those of the rest (step-ended), and so the kept places and the word's end are the ends (steps-ends).
+use mathlib.Core.Path.{_≡_, refl, ap, sym, subst, _∙_}
+use mathlib.Core.Bool.{Bool, true, false}
+use mathlib.Core.List.{List, [], _∷_, _++_, flatten}
+use Prim.Native.Nat.{ℕ, zero, suc, _+_, _-_, _≤_, _<_}
+use native.Mathlib.Omega.{arith}
+use native.Mathlib.Nat.{le-refl}
+use lib.ListN.{length, take, drop, getD, length-append, length-drop}
+use lib.Seq.{length-take-le, drop-drop, getD-drop}
+use lib.Dec.{leb}
+use Rattle.words.specs.Words.{InverseLyndon}
+use Rattle.words.specs.Factorizations.{icfl, joinFirst, fateOf, breaksFrom, prefixLength, borderLength, endsFrom}
+use Rattle.words.specs.Statements.{placeIfKept, keptPlaces, DominatedBy, Linked, more}
+use Rattle.words.specs.declared.Fate.{Fate}
+use Rattle.words.specs.declared.Fate.the-variants.{Kept, Joined}
+use Rattle.words.specs.declared.Break.{Break}
+use Rattle.words.specs.orders.Decisions.{Decides, holds, fails, leb-test}
+use Rattle.words.specs.lyndon.WordTests.{inverse-lyndon-test}
+use Rattle.words.specs.icfl.BorderLength.{Step, step-is}
+use Rattle.words.specs.icfl.IcflFactors.{prefix-inside, prefix-positive}
+use Rattle.words.specs.icfl.IcflConcat.{icfl-concat}
+use Rattle.words.specs.icfl.IcflDominated.{icfl-dominated}
+use Rattle.words.specs.uniqueness.IcflUnfold.{icfl-whole, icfl-step}
+use Rattle.words.specs.breaks.BreaksUnfold.{firstFate, firstBreak, breaks-whole, breaks-step}
+
+-- ---- one step: the ends es of the word, by the ends es′ of what follows the place, and the fate with them
+
+pub data Ended (place border a b : ℕ) (es es′ : List ℕ) : Fate → Type 0 where
+  kept : place + border < getD es′ 0 0 → es ≡ place ∷ es′ → Ended place border a b es es′ (Kept a b)
+  joined : {s : ℕ} → place < getD es′ 0 0 → s + getD es′ 0 0 ≡ place + border → es ≡ es′ → Ended place border a b es es′ (Joined s)
+
+join-ended : (i : ℕ) (p : List ℕ) (r a b : ℕ) (m : List ℕ) (ms : List (List ℕ)) → 0 < length m
+    → Ended (i + length p) r a b (endsFrom i (joinFirst p r (m ∷ ms))) (endsFrom (i + length p) (m ∷ ms)) (fateOf a b r (m ∷ ms))
+unfolding joinFirst endsFrom fateOf
+join-ended i p r a b m ms l = go (leb-test (length m) r)
+  where
+    same : i + length (p ++ m) ≡ i + length p + length m
+    same = rw length-append (omega arith)
+
+    go : {t : Bool} → Decides (length m ≤ r) t
+        → Ended (i + length p) r a b (endsFrom i (elim t [ true ↦ (p ++ m) ∷ ms | false ↦ p ∷ m ∷ ms ])) (endsFrom (i + length p) (m ∷ ms))
+        (elim t [ true ↦ Joined (r - length m) | false ↦ Kept a b ])
+    go (holds h) = joined {s = r - length m} (omega arith) (omega arith) (rw same)
+    go (fails h) = kept (omega arith) refl
+
+-- the first factor of a nonempty word
+pub record First (w : List ℕ) : Type 0 where
+  pub factor : List ℕ
+  pub others : List (List ℕ)
+  pub is : icfl w ≡ factor ∷ others
+  pub some : 0 < length factor
+
+pub first-factor : (w : List ℕ) → 0 < length w → First w
+unfolding flatten
+first-factor w l = go (icfl w) refl (icfl-concat w) (icfl-dominated w)
+  where
+    go : (ms : List (List ℕ)) → icfl w ≡ ms → flatten ms ≡ w → Linked InverseLyndon DominatedBy ms → First w
+    go [] e f d = absurd (let z : 0 ≡ length w = ap length f in omega arith)
+    go (m ∷ ms) e f (more k x y) = record { factor = m; others = ms; is = e; some = k .nonempty }
+
+module _ (i : ℕ) (w : List ℕ) (l : 0 < length w) (n : ¬ InverseLyndon w) where
+  abbrev p : ℕ
+  p = prefixLength w
+
+  step-of : Step w
+  step-of = step-is w l n
+
+  pub step-ended : Ended (i + p) (borderLength w) (getD w (borderLength w) 0) (getD w (p + borderLength w) 0)
+      (endsFrom i (icfl w)) (endsFrom (i + p) (icfl (drop p w))) (firstFate w)
+  step-ended =
+      let f : First (drop p w) = first-factor (drop p w) (rw length-drop (omega (arith, prefix-inside w step-of))) in
+      let size : length (take p w) ≡ p = length-take-le p w (omega (arith, prefix-inside w step-of)) in
+      let e = join-ended i (take p w) (borderLength w) (getD w (borderLength w) 0) (getD w (p + borderLength w) 0) (f .factor) (f .others) (f .some) in
+      rw (icfl-step w l n, f .is) (rw size at e)
+
+-- ---- all steps
+
+pub data Steps (w : List ℕ) : ℕ → List Break → Type 0 where
+  whole : {i : ℕ} → i < length w → InverseLyndon (drop i w) → Steps w i []
+  step : {i : ℕ} {bs : List Break} → i < length w → ¬ InverseLyndon (drop i w) → Steps w (i + prefixLength (drop i w)) bs
+      → Steps w i (firstBreak i (drop i w) ∷ bs)
+
+some-left : (w : List ℕ) (i : ℕ) → i < length w → 0 < length (drop i w)
+some-left w i l = rw length-drop (omega arith)
+
+-- the step at place i
+pub step-at : (w : List ℕ) (i : ℕ) → i < length w → ¬ InverseLyndon (drop i w) → Step (drop i w)
+step-at w i l n = step-is (drop i w) (some-left w i l) n
+
+pub step-inside : (w : List ℕ) (i : ℕ) → i < length w → ¬ InverseLyndon (drop i w) → i + prefixLength (drop i w) + borderLength (drop i w) < length w
+step-inside w i l n = omega (arith, step-at w i l n .failing .inside, length-drop i w)
+
+pub step-positive : (w : List ℕ) (i : ℕ) → i < length w → ¬ InverseLyndon (drop i w) → 0 < prefixLength (drop i w)
+step-positive w i l n = prefix-positive (drop i w) (step-at w i l n)
+
+steps-within : (k : ℕ) (w : List ℕ) (i : ℕ) → length w ≤ i + k → i < length w → Steps w i (breaksFrom i (drop i w))
+steps-within zero w i x l = absurd (omega arith)
+steps-within (suc k) w i x l = go (inverse-lyndon-test (drop i w)) (λ j y m. steps-within k w j y m)
+  where
+    p : ℕ
+    p = prefixLength (drop i w)
+
+    go : {t : Bool} → Decides (InverseLyndon (drop i w)) t → ((j : ℕ) → length w ≤ j + k → j < length w → Steps w j (breaksFrom j (drop j w)))
+        → Steps w i (breaksFrom i (drop i w))
+    go (holds h) next = rw (breaks-whole i (drop i w) h) (whole l h)
+    go (fails n) next =
+        let rest : Steps w (i + p) (breaksFrom (i + p) (drop p (drop i w)))
+        = rw (drop-drop p i w) (next (i + p) (omega (arith, step-positive w i l n)) (omega (arith, step-inside w i l n))) in
+        rw (breaks-step i (drop i w) (some-left w i l) n) (step l n rest)
+
+pub breaks-steps : (w : List ℕ) (i : ℕ) → i < length w → Steps w i (breaksFrom i (drop i w))
+breaks-steps w i l = steps-within (length w) w i (omega arith) l
+
+-- ---- the ends, by the breaks: the places of the kept ones, and the word's end
+
+abbrev pub keptEnds : List ℕ → List Break → List ℕ
+keptEnds w bs = keptPlaces bs ++ length w ∷ []
+
+ended-places : {place border a b : ℕ} {es es′ : List ℕ} {f : Fate} → Ended place border a b es es′ f → es ≡ placeIfKept f place es′
+ended-places (kept h e) = e
+ended-places (joined h x e) = e
+
+place-append : (f : Fate) (place : ℕ) (es ds : List ℕ) → placeIfKept f place (es ++ ds) ≡ placeIfKept f place es ++ ds
+place-append (Kept a b) place es ds = refl
+place-append (Joined s) place es ds = refl
+
+pub steps-ends : {w : List ℕ} {i : ℕ} {bs : List Break} → Steps w i bs → endsFrom i (icfl (drop i w)) ≡ keptEnds w bs
+unfolding keptPlaces endsFrom
+steps-ends {w} {i} (whole l h) =
+    let z : i + length (drop i w) ≡ length w = rw length-drop (omega arith) in
+    rw (icfl-whole (drop i w) h, z)
+steps-ends {w} {i} (step {bs = bs} l n s) =
+    let p : ℕ = prefixLength (drop i w) in
+    ended-places (step-ended i (drop i w) (some-left w i l) n)
+    ∙ (ap (placeIfKept (firstFate (drop i w)) (i + p)) (rw (drop-drop p i w) (steps-ends s))
+    ∙ place-append (firstFate (drop i w)) (i + p) (keptPlaces bs) (length w ∷ []))
+
+-- ---- the first of the breaks bs, in places of w
+
+pub record FirstOf (w : List ℕ) (i : ℕ) (b : Break) (bs : List Break) : Type 0 where
+  pub starts : b .begun ≡ i
+  pub forward : i < b .place
+  pub inside : b .place + b .border < length w
+  pub ended : Ended (b .place) (b .border) (getD w (i + b .border) 0) (getD w (b .place + b .border) 0) (keptEnds w (b ∷ bs)) (keptEnds w bs) (b .fate)
+  pub rest : Steps w (b .place) bs
+
+pub ended-same : {place place′ border border′ a a′ b b′ : ℕ} {es es′ ds ds′ : List ℕ} {f f′ : Fate}
+    → place ≡ place′ → border ≡ border′ → a ≡ a′ → b ≡ b′ → es ≡ es′ → ds ≡ ds′ → f ≡ f′
+    → Ended place border a b es ds f → Ended place′ border′ a′ b′ es′ ds′ f′
+ended-same x y z u t s r k = rw (← x, ← y, ← z, ← u, ← t, ← s, ← r) k
+
+pub steps-first : {w : List ℕ} {i : ℕ} {b : Break} {bs : List Break} → Steps w i (b ∷ bs) → FirstOf w i b bs
+steps-first {w} {i} (step {bs = bs} l n s) =
+    let v : List ℕ = drop i w in
+    let p : ℕ = prefixLength v in
+    let r : ℕ = borderLength v in
+    let right : getD v (p + r) 0 ≡ getD w (i + p + r) 0 = getD-drop i w (p + r) 0 ∙ ap (λ (k : ℕ). getD w k 0) (let z : i + (p + r) ≡ i + p + r = omega arith in z) in
+    let later : endsFrom (i + p) (icfl (drop p v)) ≡ keptEnds w bs = rw (drop-drop p i w) (steps-ends s) in
+    record {
+      starts = refl;
+      forward = omega (arith, step-positive w i l n);
+      inside = step-inside w i l n;
+      ended = ended-same refl refl (getD-drop i w r 0) right (steps-ends (step l n s)) later refl (step-ended i v (some-left w i l) n);
+      rest = s;
+    }
