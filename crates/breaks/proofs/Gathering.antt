@@ -1,95 +1,166 @@
--- Forward pass, the word's end after the breaks, backward pass: the ends of the factors then stand in a row in the work buffer (ends-found).
-use mathlib.Core.Path.{_≡_, refl, ap, sym, subst, _∙_}
-use mathlib.Core.List.{List, _++_}
-use Prim.Native.Nat.{ℕ, _+_, _-_, _*_}
-use native.Mathlib.Nat.{zero-add}
+-- The backward pass, over plain lists: from entry top up to entry n stand the ends of what follows the first k breaks.
+use mathlib.Core.Path.{_≡_, refl, ap, sym, _∙_}
+use mathlib.Core.List.{List, [], _∷_, head-eq-of-cons-eq}
+use Prim.Native.Nat.{ℕ, suc, _+_, _-_, _*_, _≤_, _<_}
 use native.Mathlib.Omega.{arith}
-use lib.ListN.{length, take, drop, getD, set, length-append, length-drop, length-set}
-use lib.Seq.{take-set-le, drop-set-add, drop-set-lt, drop-drop, take-at, drop-append-add, getD-set-same, length-take-le}
-use Rattle.buffers.proofs.PartLaws.{rest, rest-is, rest-back}
-use Rattle.words.specs.Factorizations.{icflEnds}
-use Rattle.words.specs.scan.Breaks.{foldEnds, breaks-ends}
-use Rattle.breaks.specs.Cutting.{CutRoom, BreaksFound, Stacked, Joined, EndsFound}
+use lib.ListN.{length, take, drop, getD, set, length-set, drop-of-length-le}
+use lib.Seq.{slice, slice-cons, slice-empty, drop-set-lt, getD-set-same}
+use Rattle.buffers.proofs.PartLaws.{part-is}
+use Rattle.buffers.proofs.BufferLaws.{kept-past}
+use Rattle.words.specs.Factorizations.{icflEnds, icflBreaks}
+use Rattle.words.specs.Statements.{keptPlaces}
+use Rattle.words.specs.declared.Fate.{Fate}
+use Rattle.words.specs.breaks.BreakSteps.{Ended, kept, joined, keptEnds, BreakAt}
+use Rattle.words.specs.breaks.IcflBreaks.{icfl-breaks}
+use Rattle.breaks.specs.declared.Found.{Found}
+use Rattle.breaks.specs.Cutting.{CutRoom, Noted, BreaksFound, EndsGathered, CutFound}
+use Rattle.breaks.proofs.NoteLaws.{noted-kept, few-noted, noted-break, note-at}
 
-module _ (w work work₁ : List ℕ) (count : ℕ) (r : CutRoom w work) (b : BreaksFound w work count work₁) (long : length work₁ ≡ length work) where
-  abbrev pub n : ℕ
-  n = length w
+-- ---- a part of the buffer that ends at n, one entry longer
 
-  -- the word's end stands after the breaks
-  abbrev pub work₂ : List ℕ
-  work₂ = set work₁ (n + 2 * count) n
+slice-past : (xs : List ℕ) (i n v : ℕ) → slice (suc i) n (set xs i v) ≡ slice (suc i) n xs
+slice-past xs i n v =
+    sym (part-is (suc i) n (set xs i v)) ∙ (ap (take (n - suc i)) (drop-set-lt (suc i) xs i v (omega arith)) ∙ part-is (suc i) n xs)
 
-  abbrev stack : List ℕ
-  stack = drop n work₂
+slice-more : (xs : List ℕ) (i n v : ℕ) → i < n → n ≤ length xs → slice i n (set xs i v) ≡ v ∷ slice (suc i) n xs
+slice-more xs i n v l m =
+    slice-cons i n (set xs i v) 0 l (rw length-set m) ∙ rw (getD-set-same xs i v 0 (omega arith), slice-past xs i n v)
 
-  stack-is : stack ≡ set (drop n work₁) (2 * count) n
-  stack-is = drop-set-add n work₁ (2 * count) n
+-- ---- the loop
 
-  stack-long : length stack ≡ length work - n
-  stack-long = rw (length-drop, length-set, long)
+abbrev endsAfter : List ℕ → ℕ → List ℕ
+endsAfter w k = keptEnds w (drop k (icflBreaks w))
 
-  pub stacked : Stacked (rest n work₂) count
-  stacked = rw (rest-is n work₂) (record { entries = rw stack-long (omega (arith, r .entries, b .few)); short = omega (arith, r .short, b .few) })
+pub record Gathering (w work₀ work : List ℕ) (count k top : ℕ) : Type 0 where
+  pub upto : k ≤ count
+  pub low : length w + k ≤ top + 1 + count
+  pub high : top < length w
+  pub ends : slice top (length w) work ≡ endsAfter w k
+  pub kept : drop (length w) work ≡ drop (length w) work₀
+  pub long : length work ≡ length work₀
 
-  same-breaks : take (2 * count) stack ≡ take (2 * count) (drop n work₁)
-  same-breaks = rw stack-is (take-set-le (2 * count) (drop n work₁) (2 * count) n (omega arith))
+-- the word's end stands in the last entry before the notes
+module _ (w work : List ℕ) (count : ℕ) (r : CutRoom w work) (x : Noted w work count) where
+  abbrev pub started : List ℕ
+  started = set work (length w - 1) (length w)
 
-  end-entry : getD stack (2 * count) 0 ≡ n
-  end-entry = rw stack-is (getD-set-same (drop n work₁) (2 * count) n 0 (rw (length-drop, long) (omega (arith, r .entries, b .few))))
+  pub started-kept : drop (length w) started ≡ drop (length w) work
+  started-kept = drop-set-lt (length w) work (length w - 1) (length w) (omega (arith, r .nonempty))
 
-  -- the fold over the breaks is the list of ends
-  all-ends : foldEnds (take (2 * count) stack) (getD stack (2 * count) 0) ≡ icflEnds w
-  unfolding icflEnds
-  all-ends = rw (same-breaks, end-entry) (sym (rw (zero-add n) at (breaks-ends (b .breaks))))
+  pub started-room : CutRoom w started
+  started-room = record { nonempty = r .nonempty; short = r .short; entries = rw length-set (r .entries) }
 
-  module _ (top : ℕ) (stack′ : List ℕ) (j : Joined (rest n work₂) count top stack′) (same : length stack′ ≡ length (rest n work₂)) where
-    abbrev pub work₃ : List ℕ
-    work₃ = take n work₂ ++ (stack′ ++ drop (length work₂ - n) (drop n work₂))
+  pub started-noted : Noted w started count
+  started-noted = noted-kept started-kept x
 
-    joined : Joined stack count top stack′
-    joined = rw (rest-is n work₂) at j
+  pub gather-starts : Gathering w started started count count (length w - 1)
+  unfolding keptPlaces
+  gather-starts =
+      let none : drop count (icflBreaks w) ≡ [] = drop-of-length-le (icflBreaks w) {i = count} (omega (arith, x .number)) in
+      let z : suc (length w - 1) ≡ length w = omega (arith, r .nonempty) in
+      record {
+        upto = omega arith;
+        low = omega (arith, r .nonempty);
+        high = omega (arith, r .nonempty);
+        ends = rw none (slice-more work (length w - 1) (length w) (length w) (omega (arith, r .nonempty)) (omega (arith, r .entries)) ∙ rw (z, slice-empty));
+        kept = refl;
+        long = refl;
+      }
 
-    ends-after : drop top stack′ ≡ icflEnds w ++ drop (2 * count + 1) stack
-    ends-after = joined .ends ∙ ap (λ (t : List ℕ). t ++ drop (2 * count + 1) stack) all-ends
+module _ (w work₀ work : List ℕ) (count k top : ℕ) (r : CutRoom w work₀) (x : Noted w work₀ count) (g : Gathering w work₀ work count k top) where
+  pub top-inside : top < length work
+  top-inside = omega (arith, g .high, g .long, r .entries)
 
-    size : length stack′ ≡ length work - n
-    size = same ∙ (ap length (rest-is n work₂) ∙ stack-long)
+  module _ (p : 0 < k) where
+    noted : Noted w work count
+    noted = noted-kept (g .kept) x
 
-    number : 2 * count + 1 - top ≡ length (icflEnds w)
-    number =
-        let sizes = simp (length-append, length-drop) at (ap length ends-after) in
-        omega (arith, joined .upto, r .entries, b .few, size, long, length-set work₁ (n + 2 * count) n, sizes)
+    -- the last break that is left
+    abbrev i : ℕ
+    i = k - 1
 
-    front : length (take n work₂) ≡ n
-    front = length-take-le n work₂ (rw (length-set, long) (omega (arith, r .entries)))
+    left : i < count
+    left = omega (arith, g .upto)
 
-    after : (m : ℕ) → drop (n + m) work₃ ≡ drop m stack′
-    after m =
-        rw (rest-back n work₂ stack′)
-        (subst (λ (k : ℕ). drop (k + m) (take n work₂ ++ stack′) ≡ drop m stack′) front (drop-append-add (take n work₂) stack′ m))
+    break : BreakAt w (icflBreaks w) i
+    break = noted-break w work count (r .nonempty) noted i left
 
-    -- past the ends the buffer is as the forward pass left it
-    tail-kept : drop (2 * n) stack′ ≡ drop (2 * n) stack
-    tail-kept =
-        let k : ℕ = 2 * n - (2 * count + 1) in
-        let x : top + (length (icflEnds w) + k) ≡ 2 * n = omega (arith, number, joined .upto, b .few) in
-        let y : 2 * count + 1 + k ≡ 2 * n = omega (arith, b .few) in
-        ap (λ (m : ℕ). drop m stack′) (sym x)
-        ∙ (sym (drop-drop (length (icflEnds w) + k) top stack′)
-        ∙ (ap (drop (length (icflEnds w) + k)) ends-after
-        ∙ (drop-append-add (icflEnds w) (drop (2 * count + 1) stack) k ∙ (drop-drop k (2 * count + 1) stack ∙ ap (λ (m : ℕ). drop m stack) y))))
+    place-is : getD work (length w + 2 * i) 0 ≡ break .break .place
+    unfolding break
+    place-is = note-at w work count (r .nonempty) noted i left .0
 
-    pub long-kept : length work₃ ≡ length work
-    long-kept = rw (rest-back n work₂ stack′, length-append, front, size) (omega (arith, r .entries))
+    border-is : getD work (length w + 2 * i + 1) 0 ≡ break .break .border
+    unfolding break
+    border-is = note-at w work count (r .nonempty) noted i left .1
 
-    pub ends-found : EndsFound w work (record { first = n + top; count = 2 * count + 1 - top }) work₃
-    ends-found = record {
-      count = number;
-      inside = omega (arith, joined .upto, b .few);
-      ends = rw (after top, ends-after, number) (take-at (icflEnds w) (drop (2 * count + 1) stack) (length (icflEnds w)) refl);
-      kept =
-          let e : 3 * n ≡ n + 2 * n = omega arith in
-          let f : drop (2 * n) stack ≡ drop (3 * n) work₂ = drop-drop (2 * n) n work₂ ∙ ap (λ (m : ℕ). drop m work₂) (sym e) in
-          ap (λ (m : ℕ). drop m work₃) e
-          ∙ (after (2 * n) ∙ (tail-kept ∙ (f ∙ (drop-set-lt (3 * n) work₁ (n + 2 * count) n (omega (arith, b .few)) ∙ b .kept))));
+    -- entry top is the end of the first factor of what follows
+    next-is : getD work top 0 ≡ getD (endsAfter w k) 0 0
+    next-is = ap (λ (t : List ℕ). getD t 0 0) (sym (slice-cons top (length w) work 0 (g .high) (omega (arith, r .entries, g .long))) ∙ g .ends)
+
+    pub note-inside : length w + 2 * i + 1 < length work
+    note-inside = omega (arith, g .long, r .entries, few-noted w work₀ count (r .nonempty) x, left)
+
+    pub top-positive : 0 < top
+    top-positive = omega (arith, g .low, g .upto, few-noted w work₀ count (r .nonempty) x)
+
+    ended : Ended (break .break .place) (break .break .border) (getD w (break .begun + break .break .border) 0)
+        (getD w (break .break .place + break .break .border) 0) (endsAfter w i) (endsAfter w k) (break .break .fate)
+    ended =
+        let z : suc i ≡ k = omega arith in
+        let after : endsAfter w i ≡ keptEnds w (break .break ∷ drop k (icflBreaks w)) = ap (keptEnds w) (rw z at (break .is)) in
+        rw after (rw z at (break .first .ended))
+
+    pub joined-on : getD work top 0 ≤ getD work (length w + 2 * i) 0 + getD work (length w + 2 * i + 1) 0 → Gathering w work₀ work count i top
+    joined-on l = record {
+      upto = omega (arith, g .upto);
+      low = omega (arith, g .low);
+      high = g .high;
+      ends = g .ends ∙ sym (go ended);
+      kept = g .kept;
+      long = g .long;
     }
+      where
+        go : {a b : ℕ} {f : Fate} → Ended (break .break .place) (break .break .border) a b (endsAfter w i) (endsAfter w k) f → endsAfter w i ≡ endsAfter w k
+        go (joined h s e) = e
+        go (kept h e) = absurd (omega (arith, place-is, border-is, next-is))
+
+    pub kept-on : getD work (length w + 2 * i) 0 + getD work (length w + 2 * i + 1) 0 < getD work top 0
+        → Gathering w work₀ (set work (top - 1) (getD work (length w + 2 * i) 0)) count i (top - 1)
+    kept-on l =
+        let z : suc (top - 1) ≡ top = omega (arith, top-positive) in
+        record {
+          upto = omega (arith, g .upto);
+          low = omega (arith, g .low, top-positive);
+          high = omega (arith, g .high);
+          ends =
+              slice-more work (top - 1) (length w) (getD work (length w + 2 * i) 0) (omega (arith, g .high)) (omega (arith, r .entries, g .long))
+              ∙ (rw (z, place-is, g .ends) (sym (go ended)));
+          kept = drop-set-lt (length w) work (top - 1) (getD work (length w + 2 * i) 0) (omega (arith, g .high)) ∙ g .kept;
+          long = length-set work (top - 1) (getD work (length w + 2 * i) 0) ∙ g .long;
+        }
+      where
+        go : {a b : ℕ} {f : Fate} → Ended (break .break .place) (break .break .border) a b (endsAfter w i) (endsAfter w k) f
+            → endsAfter w i ≡ break .break .place ∷ endsAfter w k
+        go (kept h e) = e
+        go (joined h s e) = absurd (omega (arith, place-is, border-is, next-is))
+
+pub gather-ends : (w work₀ work : List ℕ) (count k top : ℕ) → CutRoom w work₀ → Gathering w (set work₀ (length w - 1) (length w)) work count k top → k ≤ 0
+    → EndsGathered w work₀ top work
+gather-ends w work₀ work count k top r g l =
+    let z : k ≡ 0 = omega arith in
+    record {
+      inside = g .high;
+      ends = g .ends ∙ (rw z (icfl-breaks w (r .nonempty) .ends));
+      kept = g .kept ∙ drop-set-lt (length w) work₀ (length w - 1) (length w) (omega (arith, r .nonempty));
+    }
+
+-- ---- both passes
+
+pub cut-found : (w work work₁ work₂ : List ℕ) (first breaks : ℕ) → BreaksFound w work breaks work₁ → EndsGathered w work₁ first work₂
+    → CutFound w work (record { first = first; breaks = breaks }) work₂
+cut-found w work work₁ work₂ first breaks b e = record {
+  inside = e .inside;
+  ends = e .ends;
+  noted = noted-kept (e .kept) (b .noted);
+  kept = kept-past (length w) (3 * length w) work₂ work₁ (omega arith) (e .kept) ∙ b .kept;
+}

@@ -1,3 +1,3 @@
 pub mod Finding
-pub mod Joining
+pub mod NoteLaws
 pub mod Gathering

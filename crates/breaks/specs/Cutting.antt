@@ -1,12 +1,13 @@
--- What finding the breaks and joining them ask and promise. No call's promise cites this file.
+-- What finding the breaks and gathering the ends ask and promise. No call's promise cites this file.
 use mathlib.Core.Path.{_≡_}
-use mathlib.Core.List.{List, _++_}
-use Prim.Native.Nat.{ℕ, _+_, _*_, _≤_, _<_}
-use lib.ListN.{length, take, drop, getD}
+use mathlib.Core.List.{List, [], _∷_}
+use Prim.Native.Nat.{ℕ, _*_, _≤_, _<_}
+use lib.ListN.{length, take, drop}
+use lib.Seq.{slice}
 use Rattle.words.specs.Words.{mostLetters}
-use Rattle.words.specs.Factorizations.{icflEnds}
-use Rattle.words.specs.scan.Breaks.{Breaks, foldEnds}
-use Rattle.breaks.specs.declared.Ends.{Ends}
+use Rattle.words.specs.Factorizations.{icflEnds, icflBreaks}
+use Rattle.words.specs.declared.Break.{Break}
+use Rattle.breaks.specs.declared.Found.{Found}
 
 -- a word that was accepted, and work entries for it
 pub record CutRoom (w work : List ℕ) : Type 0 where
@@ -14,22 +15,28 @@ pub record CutRoom (w work : List ℕ) : Type 0 where
   pub short : length w ≤ mostLetters
   pub entries : 3 * length w ≤ length work
 
+-- what is noted of each break: the place where p ends, and |r|
+unfoldable pub notesOf : List Break → List ℕ
+notesOf [] = []
+notesOf (b ∷ bs) = b .place ∷ b .border ∷ notesOf bs
+
+-- the notes of all breaks stand behind the entries of the letters
+pub record Noted (w work : List ℕ) (count : ℕ) : Type 0 where
+  pub number : count ≡ length (icflBreaks w)
+  pub notes : take (2 * count) (drop (length w) work) ≡ notesOf (icflBreaks w)
+
 pub record BreaksFound (w work : List ℕ) (count : ℕ) (work′ : List ℕ) : Type 0 where
-  pub few : count < length w
-  pub breaks : Breaks 0 w (take (2 * count) (drop (length w) work′))
+  pub noted : Noted w work′ count
   pub kept : drop (3 * length w) work′ ≡ drop (3 * length w) work
 
--- the entry after the breaks
-pub record Stacked (stack : List ℕ) (count : ℕ) : Type 0 where
-  pub entries : 2 * count < length stack
-  pub short : count ≤ mostLetters
+-- the ends stand in front of the notes
+pub record EndsGathered (w work : List ℕ) (first : ℕ) (work′ : List ℕ) : Type 0 where
+  pub inside : first < length w
+  pub ends : slice first (length w) work′ ≡ icflEnds w
+  pub kept : drop (length w) work′ ≡ drop (length w) work
 
-pub record Joined (stack : List ℕ) (count top : ℕ) (stack′ : List ℕ) : Type 0 where
-  pub upto : top ≤ 2 * count
-  pub ends : drop top stack′ ≡ foldEnds (take (2 * count) stack) (getD stack (2 * count) 0) ++ drop (2 * count + 1) stack
-
-pub record EndsFound (w work : List ℕ) (r : Ends) (work′ : List ℕ) : Type 0 where
-  pub count : r .count ≡ length (icflEnds w)
-  pub inside : r .first + r .count ≤ 3 * length w
-  pub ends : take (r .count) (drop (r .first) work′) ≡ icflEnds w
+pub record CutFound (w work : List ℕ) (r : Found) (work′ : List ℕ) : Type 0 where
+  pub inside : r .first < length w
+  pub ends : slice (r .first) (length w) work′ ≡ icflEnds w
+  pub noted : Noted w work′ (r .breaks)
   pub kept : drop (3 * length w) work′ ≡ drop (3 * length w) work

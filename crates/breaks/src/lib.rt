@@ -1,11 +1,13 @@
-//! The ends of the factors of the canonical inverse Lyndon factorization: all breaks from left to right, then joined from the last to the first.
+//! The ends of the factors of the canonical inverse Lyndon factorization: all breaks from left to right, then the ends from the last to the first. Both stand in
+//! the work buffer afterwards.
 use extension::Extension;
-ghost use Rattle.breaks.specs.Cutting.{CutRoom, BreaksFound, Stacked, Joined, EndsFound};
+ghost use Rattle.breaks.specs.Cutting.{CutRoom, Noted, BreaksFound, EndsGathered, CutFound};
 
-/// Where the ends of the factors stand in the work buffer.
-pub struct Ends {
+/// Where the ends and the notes of the breaks stand in the work buffer, for a word of n letters: the ends from entry `first` to entry n, the notes, two entries a
+/// break, from there on.
+pub struct Found {
     pub first: usize,
-    pub count: usize,
+    pub breaks: usize,
 }
 
 // The breaks, from left to right: for each the place where p ends and |r|, from entry `word.len()` of `work` on. Answers their number.
@@ -34,38 +36,35 @@ fn find_breaks(word: &[u8], work: &mut [u16]) -> usize
     count
 }
 
-// From the last break to the first: a first factor that is no longer than |r| is joined, otherwise the end of p is kept. The word's end stands after
-// the breaks; the ends gather in front of it, and the answer is the entry of the first one.
-fn join_breaks(stack: &mut [u16], count: usize) -> usize
-    requires { ⌜ Stacked (now stack) count ⌝ }
-    ensures { λ r. ⌜ Joined (now (stack .entry)) count r (now (stack .exit)) ⌝ }
+// From the last break to the first: where the first factor of the rest is no longer than |r|, it is joined; otherwise the end of p is kept. The ends gather in
+// front of entry n, where the test needs no entry any more; the answer is the entry of the first one.
+fn gather_ends(word: &[u8], work: &mut [u16], count: usize) -> usize
+    requires { ⌜ CutRoom (now word) (now work) × Noted (now word) (now work) count ⌝ }
+    ensures { λ r. ⌜ EndsGathered (now (word .entry)) (now (work .entry)) r (now (work .exit)) ⌝ }
 {
+    let n = word.len();
     let mut k = count;
-    let mut top = 2 * count;
+    let mut top = n - 1;
+    work[top] = n as u16;
     while 0 < k {
         k -= 1;
-        let end = stack[2 * k] as usize;
-        let border = stack[2 * k + 1] as usize;
-        let first = stack[top] as usize;
-        if end + border < first {
+        let place = work[n + 2 * k] as usize;
+        let border = work[n + 2 * k + 1] as usize;
+        let next = work[top] as usize;
+        if place + border < next {
             top -= 1;
-            stack[top] = end as u16;
+            work[top] = place as u16;
         }
     }
     top
 }
 
-/// The ends of the factors of a word that was accepted, left in the work buffer.
-pub fn find_ends(word: &[u8], work: &mut [u16]) -> Ends
+/// The ends of the factors of a word that was accepted, and its breaks, left in the work buffer.
+pub fn find_ends(word: &[u8], work: &mut [u16]) -> Found
     requires { ⌜ CutRoom (now word) (now work) ⌝ }
-    ensures { λ r. ⌜ EndsFound (now (word .entry)) (now (work .entry)) r (now (work .exit)) ⌝ }
+    ensures { λ r. ⌜ CutFound (now (word .entry)) (now (work .entry)) r (now (work .exit)) ⌝ }
 {
-    let n = word.len();
-    let count = find_breaks(word, work);
-    work[n + 2 * count] = n as u16;
-    let top = join_breaks(&mut work[n..], count);
-    Ends {
-        first: n + top,
-        count: 2 * count + 1 - top,
-    }
+    let breaks = find_breaks(word, work);
+    let first = gather_ends(word, work, breaks);
+    Found { first, breaks }
 }

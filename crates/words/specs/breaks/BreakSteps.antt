@@ -164,3 +164,15 @@ steps-first {w} {i} (step {bs = bs} l n s) =
       ended = ended-same refl refl (getD-drop i w r 0) right (steps-ends (step l n s)) later refl (step-ended i v (some-left w i l) n);
       rest = s;
     }
+
+-- break k, with those after it
+pub record BreakAt (w : List ℕ) (bs : List Break) (k : ℕ) : Type 0 where
+  pub begun : ℕ
+  pub break : Break
+  pub is : drop k bs ≡ break ∷ drop (suc k) bs
+  pub first : FirstOf w begun break (drop (suc k) bs)
+
+pub break-at : {w : List ℕ} {i : ℕ} {bs : List Break} → Steps w i bs → (k : ℕ) → k < length bs → BreakAt w bs k
+break-at (whole l h) k m = absurd (omega arith)
+break-at {w} {i} (step {bs = bs} l n s) zero m = record { begun = i; break = firstBreak i (drop i w); is = refl; first = steps-first (step l n s) }
+break-at (step l n s) (suc k) m = let b = break-at s k (omega arith) in record { begun = b .begun; break = b .break; is = b .is; first = b .first }

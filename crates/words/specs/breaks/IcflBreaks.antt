@@ -16,8 +16,22 @@ use Rattle.words.specs.icfl.Failing.{failing-is, failing-unique}
 use Rattle.words.specs.icfl.BorderLength.{least-border-is, step-is}
 use Rattle.words.specs.icfl.BoundedExtension.{extension-is}
 use Rattle.words.specs.breaks.BreaksUnfold.{firstBreak}
-use Rattle.words.specs.breaks.BreakSteps.{Ended, kept, joined, First, first-factor, Steps, whole, step, step-inside, step-positive, step-ended, ended-same,
-  breaks-steps, steps-ends}
+use Rattle.words.specs.breaks.BreakSteps.{
+  Ended,
+  kept,
+  joined,
+  First,
+  first-factor,
+  Steps,
+  whole,
+  step,
+  step-inside,
+  step-positive,
+  step-ended,
+  ended-same,
+  breaks-steps,
+  steps-ends,
+}
 
 -- ---- the places
 

@@ -1,0 +1,48 @@
+-- The entries of breaks: five stores are a break's entries (kept-stored, joined-stored); all entries, one break after another (entries-next, length-entries).
+use mathlib.Core.Path.{_≡_, refl, ap, _∙_}
+use mathlib.Core.List.{List, [], _∷_, _++_, map, flatten}
+use Prim.Native.Nat.{ℕ, suc, _+_, _*_}
+use native.Mathlib.Omega.{arith}
+use native.Mathlib.Numerals.{add-one, add-two, add-three, add-four}
+use lib.ListN.{length, set, length-append}
+use lib.Seq.{sets}
+use Rattle.words.specs.declared.Fate.{Fate}
+use Rattle.words.specs.declared.Fate.the-variants.{Kept, Joined}
+use Rattle.words.specs.declared.Break.{Break}
+use Rattle.fates.specs.Entries.{fateEntries, breakEntries, entriesOf}
+
+-- ---- one break
+
+abbrev pub five : List ℕ → (at x y z u v : ℕ) → List ℕ
+five buffer at x y z u v = set (set (set (set (set buffer at x) (at + 1) y) (at + 2) z) (at + 3) u) (at + 4) v
+
+five-stored : (buffer : List ℕ) (at x y z u v : ℕ) → five buffer at x y z u v ≡ sets buffer at (x ∷ y ∷ z ∷ u ∷ v ∷ [])
+five-stored buffer at x y z u v = rw (add-one at, add-two at, add-three at, add-four at)
+
+pub kept-stored : (buffer : List ℕ) (at : ℕ) (k : Break) (a b : ℕ) → k .fate ≡ Kept a b
+    → five buffer at (k .place) (k .begun) (k .border) a b ≡ sets buffer at (breakEntries k)
+kept-stored buffer at k a b e = rw e (five-stored buffer at (k .place) (k .begun) (k .border) a b)
+
+pub joined-stored : (buffer : List ℕ) (at : ℕ) (k : Break) (s : ℕ) → k .fate ≡ Joined s
+    → five buffer at (k .place) (k .begun) (k .border) 256 s ≡ sets buffer at (breakEntries k)
+joined-stored buffer at k s e = rw e (five-stored buffer at (k .place) (k .begun) (k .border) 256 s)
+
+two-entries : (f : Fate) → length (fateEntries f) ≡ 2
+two-entries (Kept a b) = refl
+two-entries (Joined s) = refl
+
+pub five-entries : (b : Break) → length (breakEntries b) ≡ 5
+five-entries b = rw (two-entries (b .fate))
+
+-- ---- all breaks
+
+pub entries-next : (b : Break) (bs : List Break) → entriesOf (b ∷ bs) ≡ breakEntries b ++ entriesOf bs
+unfolding flatten
+entries-next b bs = refl
+
+pub length-entries : (bs : List Break) → length (entriesOf bs) ≡ 5 * length bs
+unfolding flatten
+length-entries [] = refl
+length-entries (b ∷ bs) =
+    ap length (entries-next b bs)
+    ∙ (length-append (breakEntries b) (entriesOf bs) ∙ (rw (five-entries b, length-entries bs) (let z : 5 + 5 * length bs ≡ 5 * suc (length bs) = omega arith in z)))

@@ -1,0 +1,3 @@
+pub mod EntryLaws
+pub mod FateLaws
+pub mod Writing
