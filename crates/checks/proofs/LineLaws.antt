@@ -13,7 +13,7 @@ use lib.ListN.{length, take, drop, length-append}
 use lib.Seq.{take-at}
 use types.Run.{OneOf}
 use denote.Enum.Declared.{tagOf}
-use borrow.Author.Tests.{eqb-true, ltb-true, not-true, eq-eqb}
+use borrow.Author.Tests.{eqb-true, ltb-true, not-true}
 use Rattle.buffers.specs.Buffers.{written}
 use Rattle.checks.proofs.Checked.{the-type}
 use Rattle.checks.specs.declared.Checked.{Checked}
@@ -169,17 +169,22 @@ numbered-is lines e = go (tried lines) (zero-passes lines e)
     go (Refused zero) h = sym (h refl)
     go (Refused (suc number)) h = refl
 
--- a last line whose refusal stands for the result too, where no line before it has its number
-pub unless-but : {A : Type 0} (result other : A) (lines : List Line) (number : ℕ) (met : Bool) → everyNumber (λ m. not (eqb m number)) lines ≡ true
-    → (result unless lines ++ number when met ∷ [] then (λ m. elim (eqb m number) [ true ↦ result | false ↦ other ])) ≡ (result unless lines then (λ m. other))
+-- more lines whose refusal stands for the result too, all of one number that no line before them has
+pub unless-but : {A : Type 0} (result other : A) (lines more : List Line) (number : ℕ) → everyNumber (λ m. not (eqb m number)) lines ≡ true
+    → everyNumber (λ m. eqb m number) more ≡ true
+    → (result unless lines ++ more then (λ m. elim (eqb m number) [ true ↦ result | false ↦ other ])) ≡ (result unless lines then (λ m. other))
 unfolding tried
-unless-but result other [] number true e = ap (λ (t : Bool). elim t [ true ↦ result | false ↦ other ]) (eq-eqb number number refl)
-unless-but result other [] number false e = refl
-unless-but result other (m when true ∷ lines) number met e =
+unless-but result other [] [] number e f = refl
+unless-but result other [] (m when true ∷ more) number e f =
+    let h = both-true (eqb m number) (everyNumber (λ k. eqb k number) more) f .0 in
+    ap (λ (t : Bool). elim t [ true ↦ result | false ↦ other ]) h
+unless-but result other [] (m when false ∷ more) number e f =
+    unless-but result other [] more number e (both-true (eqb m number) (everyNumber (λ k. eqb k number) more) f .1)
+unless-but result other (m when true ∷ lines) more number e f =
     let h = both-true (not (eqb m number)) (everyNumber (λ k. not (eqb k number)) lines) e .0 in
     ap (λ (t : Bool). elim t [ true ↦ result | false ↦ other ]) (not-true (eqb m number) h)
-unless-but result other (m when false ∷ lines) number met e =
-    unless-but result other lines number met (both-true (not (eqb m number)) (everyNumber (λ k. not (eqb k number)) lines) e .1)
+unless-but result other (m when false ∷ lines) more number e f =
+    unless-but result other lines more number (both-true (not (eqb m number)) (everyNumber (λ k. not (eqb k number)) lines) e .1) f
 
 -- ---- calls that fill a result buffer
 

@@ -1,1 +1,2 @@
 pub mod IcflCases
+pub mod BreaksCases

@@ -1,1 +1,2 @@
 pub mod Icfl
+pub mod IcflBreaks

@@ -1,7 +1,7 @@
 -- Admission; the ends are found in the work buffer; then line 4 refuses, or they are copied; either way the buffer is cleared.
 use borrow.Author.Needs.{needs}
 use mathlib.Core.Path.{_≡_}
-use Prim.Native.Nat.{_+_, _*_, _≤_}
+use Prim.Native.Nat.{_*_, _≤_}
 use native.Mathlib.Omega.{arith}
 use lib.ListN.{length, length-take, length-drop}
 use Rattle.words.specs.Words.{mostLetters}
@@ -9,9 +9,9 @@ use Rattle.checks.specs.Lines.{tried}
 use Rattle.checks.specs.declared.Checked.the-variants.{Passed}
 use Rattle.checks.proofs.LineLaws.{passed}
 use Rattle.checks.proofs.RecordLaws.{enough}
-use Rattle.icfl.specs.Icfl.{icflAdmission}
 use Rattle.breaks.specs.Cutting.{CutRoom}
-use Rattle.icfl.proofs.IcflCases.{admission-refused, cut-room, result-refused, ends-written}
+use Rattle.icfl.specs.Icfl.{icflAdmission}
+use Rattle.icfl.proofs.IcflCases.{cut-room, admission-refused, result-refused, ends-written}
 use Rattle.icfl.proofs.icfl.Statement.{statement}
 use Rattle.icfl.proofs.icfl.Tie as tie
 
@@ -22,18 +22,15 @@ admitted-at c = passed _ (c .before .before .admit .ensures) (c .before .match .
 
 room-at : (c : tie.After-enum-told) → (let start = c .before .before .before .before .before .before in
     CutRoom (start .args .word .now) (start .args .work .now))
-room-at c = cut-room _ _ (c .before .before .before .before .before .before .args .ends .now) (admitted-at c)
+room-at c = cut-room _ _ (admitted-at c)
 
--- the ends that are found lie among the entries that will be cleared, and these in the work buffer
+-- the entries that will be cleared lie in the work buffer
 inside-at : (c : tie.After-find-ends) → (let start = c .before .before .before .before .before .before .before .before in
-    (c .find-ends .result .first + c .find-ends .result .count ≤ 3 * mostLetters) × (3 * length (start .args .word .now) ≤ length (c .find-ends .last .1 .0))
-    × (c .find-ends .result .first + c .find-ends .result .count ≤ length (c .find-ends .last .1 .0)))
+    (3 * length (start .args .word .now) ≤ length (c .find-ends .last .1 .0)) × (length (start .args .word .now) ≤ length (c .find-ends .last .1 .0))
+    × (length (start .args .word .now) ≤ mostLetters))
 inside-at c =
-    let room = room-at (c .before .before) in (
-      omega (arith, c .find-ends .ensures .inside, room .short),
-      omega (arith, room .entries, c .find-ends .kept),
-      omega (arith, c .find-ends .ensures .inside, room .entries, c .find-ends .kept),
-    )
+    let room = room-at (c .before .before) in
+    (omega (arith, room .entries, c .find-ends .kept), omega (arith, room .entries, c .find-ends .kept), room .short)
 
 admit-requires : tie.Need-admit-requires
 admit-requires c κs = search needs
@@ -50,11 +47,11 @@ number-requires c κs = search needs
 returns : tie.Need-returns
 returns c = admission-refused _ _ _ (c .before .before .before .admit .ensures) (c .before .before .match .keys2) (c .number .ensures)
 
-mul-used : tie.Need-mul-used
-mul-used c = omega (arith, room-at c .short)
-
 find-ends-requires : tie.Need-find-ends-requires
 find-ends-requires c κs = room-at (c .before)
+
+sub-check-result : tie.Need-sub-check-result
+sub-check-result c = search needs
 
 check-result-requires : tie.Need-check-result-requires
 check-result-requires c κs = search needs
@@ -64,6 +61,9 @@ enum-told-3 c = search needs
 
 enum-told-4 : tie.Need-enum-told-4
 enum-told-4 c = search needs
+
+mul-clear : tie.Need-mul-clear
+mul-clear c = omega (arith, inside-at (c .before .before .before .before .before .before))
 
 clear-requires : tie.Need-clear-requires
 clear-requires c κs = omega (arith, inside-at (c .before .before .before .before .before .before))
@@ -78,14 +78,11 @@ returns-2 : tie.Need-returns-2
 returns-2 c =
     let at-room = c .before .before .before .before .before .before in
     let at-found = at-room .before .before .before .before in
-    result-refused _ _ _ (admitted-at (at-found .before .before)) (at-found .find-ends .ensures) (c .before .before .before .clear .ensures)
+    result-refused _ _ _ (admitted-at (at-found .before .before)) (at-found .find-ends .ensures) (inside-at at-found .1) (c .before .before .before .clear .ensures)
     (at-room .before .check-result .ensures) (at-room .match2 .keys2) (c .number2 .ensures)
 
-add-copy : tie.Need-add-copy
-add-copy c = omega (arith, inside-at (c .before .before .before .before .before) .0)
-
 mul-copy : tie.Need-mul-copy
-mul-copy c = omega (arith, inside-at (c .before .before .before .before .before) .0)
+mul-copy c = search needs
 
 sub-copy : tie.Need-sub-copy
 sub-copy c = search needs
@@ -102,11 +99,17 @@ copy-requires c κs =
     let at-found = at-room .before .before .before .before in
     let start = at-found .before .before .before .before .before .before .before .before in
     let fits = passed _ (at-room .before .check-result .ensures) (at-room .match2 .keys1) in
-    let space = enough 4 (length (start .args .ends .now)) (at-found .find-ends .result .count) fits in
+    let space = enough 4 (length (start .args .ends .now)) _ fits in
     simp (length-take, length-drop) (omega (arith, space))
+
+mul-clear-2 : tie.Need-mul-clear-2
+mul-clear-2 c = omega (arith, inside-at (c .before .before .before .before .before .before .before .before .before .before .before .before))
 
 clear-requires-2 : tie.Need-clear-requires-2
 clear-requires-2 c κs = omega (arith, inside-at (c .before .before .before .before .before .before .before .before .before .before .before .before))
+
+sub-t9 : tie.Need-sub-t9
+sub-t9 c = search needs
 
 same-length-2 : tie.Need-same-length-2
 same-length-2 c = search needs
@@ -119,12 +122,12 @@ returns-3 c =
     let at-copy = c .before .before .before .before .before .before in
     let at-room = at-copy .before .before .before .before .before in
     let at-found = at-room .before .before .before .before in
-    ends-written _ _ _ (admitted-at (at-found .before .before)) (at-found .find-ends .ensures) (c .before .before .clear2 .ensures)
+    ends-written _ _ _ (admitted-at (at-found .before .before)) (at-found .find-ends .ensures) (inside-at at-found .1) (c .before .before .clear2 .ensures)
     (passed _ (at-room .before .check-result .ensures) (at-room .match2 .keys1)) (at-copy .copy .ensures)
 
 pub icfl-spec : {M : Type 1} → statement M
 icfl-spec =
     tie.close
-    (tie.spec admit-requires enum-told enum-told-2 number-requires returns mul-used find-ends-requires check-result-requires enum-told-3 enum-told-4
-    clear-requires number-requires-2 same-length returns-2 add-copy mul-copy sub-copy part-copy-start part-copy-end copy-requires clear-requires-2
-    same-length-2 same-length-3 returns-3)
+    (tie.spec admit-requires enum-told enum-told-2 number-requires returns find-ends-requires sub-check-result check-result-requires
+    enum-told-3 enum-told-4 mul-clear clear-requires number-requires-2 same-length returns-2 mul-copy sub-copy part-copy-start part-copy-end
+    copy-requires mul-clear-2 clear-requires-2 sub-t9 same-length-2 same-length-3 returns-3)

@@ -1,0 +1,82 @@
+-- The promise of the piece cut with its breaks in each of its cases: refused before its work (breaks-unadmitted), by either 4 (breaks-refused), or done
+-- (breaks-written).
+use mathlib.Core.Path.{_≡_, refl, ap, sym, _∙_}
+use mathlib.Core.List.{List, [], _∷_}
+use Prim.Native.Nat.{ℕ, _-_, _*_, _≤_}
+use native.Mathlib.Omega.{arith}
+use borrow.Author.Tests.{ltb-false}
+use lib.ListN.{length}
+use Rattle.words.specs.Factorizations.{icflEnds, icflBreaks}
+use Rattle.buffers.specs.Buffers.{cleared, written}
+use Rattle.buffers.proofs.PartLaws.{part}
+use Rattle.checks.specs.Lines.{Line, tried, resultLine}
+use Rattle.checks.specs.Answers.{numberOf}
+use Rattle.checks.specs.declared.Checked.{Checked}
+use Rattle.checks.specs.declared.Checked.the-variants.{Passed}
+use Rattle.checks.proofs.LineLaws.{IsRefused, refused, refused-first, passed-first, unmet}
+use Rattle.breaks.specs.declared.Found.{Found}
+use Rattle.breaks.specs.Cutting.{CutFound}
+use Rattle.fates.specs.Entries.{entriesOf}
+use Rattle.icfl.specs.Icfl.{icflAdmission}
+use Rattle.icfl.specs.IcflBreaks.{breaksLines, BreaksDone}
+use Rattle.icfl.specs.declared.CountedBreaks.{CountedBreaks}
+use Rattle.icfl.proofs.IcflCases.{ends-count, ends-part, refused-worked, cut-worked}
+
+-- the two lines with number 4, by entries needed
+abbrev pub roomLines : (ends breaks factors count : ℕ) → List Line
+roomLines ends breaks factors count = resultLine ends factors ∷ resultLine breaks (5 * count) ∷ []
+
+module _ (w work ends breaks : List ℕ) where
+  abbrev room : List Line
+  room = roomLines (length ends) (length breaks) (length (icflEnds w)) (length (icflBreaks w))
+
+  abbrev lines : List Line
+  lines = breaksLines w (length work) (length ends) (length breaks)
+
+  abbrev result : CountedBreaks
+  result = CountedBreaks.Counts (length (icflEnds w)) (length (icflBreaks w))
+
+  pub breaks-unadmitted : {k : Checked} {m : ℕ} → k ≡ tried (icflAdmission w (length work)) → IsRefused k → m ≡ numberOf k
+      → BreaksDone w work ends breaks (CountedBreaks.Refused m) work ends breaks
+  breaks-unadmitted {k} e h z =
+      let first : k ≡ tried lines = refused-first (icflAdmission w (length work)) room e h in
+      record {
+        answer = refused lines result (λ (i : ℕ). CountedBreaks.Refused i) first h z;
+        ends-are = refused lines (written (icflEnds w) ends) (λ (i : ℕ). ends) first h z;
+        breaks-are = refused lines (written (entriesOf (icflBreaks w)) breaks) (λ (i : ℕ). breaks) first h z;
+        worked = refused-worked w work room refl e h z;
+      }
+
+  module _ (p : tried (icflAdmission w (length work)) ≡ Passed) {found : Found} {work₁ work₂ : List ℕ} (x : CutFound w work found work₁)
+      (l : length w ≤ length work₁) (y : work₂ ≡ cleared (3 * length w) work₁) where
+    -- these lines are tried after the others
+    fourth : {k : Checked} → k ≡ tried (roomLines (length ends) (length breaks) (length w - found .first) (found .breaks)) → k ≡ tried lines
+    fourth e = passed-first (icflAdmission w (length work)) room p (rw (ends-count x l, x .noted .number) at e)
+
+    pub breaks-refused : {k : Checked} {m : ℕ} → k ≡ tried (roomLines (length ends) (length breaks) (length w - found .first) (found .breaks))
+        → IsRefused k → m ≡ numberOf k → BreaksDone w work ends breaks (CountedBreaks.Refused m) work₂ ends breaks
+    breaks-refused e h z = record {
+      answer = refused lines result (λ (i : ℕ). CountedBreaks.Refused i) (fourth e) h z;
+      ends-are = refused lines (written (icflEnds w) ends) (λ (i : ℕ). ends) (fourth e) h z;
+      breaks-are = refused lines (written (entriesOf (icflBreaks w)) breaks) (λ (i : ℕ). breaks) (fourth e) h z;
+      worked = cut-worked w work room refl p x y;
+    }
+
+    pub breaks-written : {ends′ breaks′ : List ℕ}
+        → tried (roomLines (length ends) (length breaks) (length w - found .first) (found .breaks)) ≡ Passed
+        → ends′ ≡ written (part (found .first) (length w) work₁) ends → breaks′ ≡ written (entriesOf (icflBreaks w)) breaks
+        → BreaksDone w work ends breaks (CountedBreaks.Counts (length w - found .first) (found .breaks)) work₂ ends′ breaks′
+    breaks-written r e f =
+        let passed : tried lines ≡ Passed = sym (fourth (sym r)) in
+        record {
+          answer = rw (passed, ends-count x l, x .noted .number);
+          ends-are = rw passed (rw (ends-part x l) at e);
+          breaks-are = rw passed f;
+          worked = cut-worked w work room refl p x y;
+        }
+
+-- what it tells that both lines pass
+pub rooms : (ends breaks factors count : ℕ) → tried (roomLines ends breaks factors count) ≡ Passed → (factors ≤ ends) × (5 * count ≤ breaks)
+rooms ends breaks factors count p =
+    let u = unmet (roomLines ends breaks factors count) p in
+    (ltb-false ends factors (u .0), ltb-false breaks (5 * count) (u .1 .0))

@@ -1,0 +1,176 @@
+-- Admission; ends and breaks are found in the work buffer; then one of the two lines 4 refuses, or both are written; either way the buffer is cleared.
+use borrow.Author.Needs.{needs}
+use mathlib.Core.Path.{_≡_}
+use Prim.Native.Nat.{_-_, _*_, _≤_}
+use native.Mathlib.Omega.{arith}
+use lib.ListN.{length, length-take, length-drop}
+use Rattle.words.specs.Words.{mostLetters}
+use Rattle.checks.specs.Lines.{tried}
+use Rattle.checks.specs.declared.Checked.the-variants.{Passed}
+use Rattle.checks.proofs.LineLaws.{both, passed}
+use Rattle.breaks.specs.Cutting.{CutRoom}
+use Rattle.breaks.proofs.NoteLaws.{few-noted}
+use Rattle.icfl.specs.Icfl.{icflAdmission}
+use Rattle.icfl.proofs.IcflCases.{cut-room}
+use Rattle.icfl.proofs.BreaksCases.{roomLines, rooms, breaks-unadmitted, breaks-refused, breaks-written}
+use Rattle.icfl.proofs.icfl_with_breaks.Statement.{statement}
+use Rattle.icfl.proofs.icfl_with_breaks.Tie as tie
+
+-- past the admission
+admitted-at : (c : tie.After-enum-told) → (let start = c .before .before .before .before .before .before .before in
+    tried (icflAdmission (start .args .word .now) (length (start .args .work .now))) ≡ Passed)
+admitted-at c = passed _ (c .before .before .admit .ensures) (c .before .match .keys1)
+
+room-at : (c : tie.After-enum-told) → (let start = c .before .before .before .before .before .before .before in
+    CutRoom (start .args .word .now) (start .args .work .now))
+room-at c = cut-room _ _ (admitted-at c)
+
+-- the entries that will be cleared lie in the work buffer
+inside-at : (c : tie.After-find-ends) → (let start = c .before .before .before .before .before .before .before .before .before in
+    (3 * length (start .args .word .now) ≤ length (c .find-ends .last .1 .0)) × (length (start .args .word .now) ≤ length (c .find-ends .last .1 .0))
+    × (length (start .args .word .now) ≤ mostLetters))
+inside-at c =
+    let room = room-at (c .before .before) in
+    (omega (arith, room .entries, c .find-ends .kept), omega (arith, room .entries, c .find-ends .kept), room .short)
+
+-- what both lines with number 4 say
+tried-at : (c : tie.After-then) → (let at-found = c .before .before .before .before .before in
+    let start = at-found .before .before .before .before .before .before .before .before .before in
+    c .then .result ≡ tried (roomLines (length (start .args .ends .now)) (length (start .args .breaks .now))
+    (length (start .args .word .now) - at-found .find-ends .result .first) (at-found .find-ends .result .breaks)))
+tried-at c = both _ _ (c .then .ensures) (c .before .before .check-result .ensures) (c .before .check-result2 .ensures)
+
+-- past them there is room
+fits-at : (c : tie.After-enum-told3) → (let at-found = c .before .before .before .before .before .before .before in
+    let start = at-found .before .before .before .before .before .before .before .before .before in
+    (length (start .args .word .now) - at-found .find-ends .result .first ≤ length (start .args .ends .now))
+    × (5 * at-found .find-ends .result .breaks ≤ length (start .args .breaks .now)))
+fits-at c =
+    let at-found = c .before .before .before .before .before .before .before in
+    let start = at-found .before .before .before .before .before .before .before .before .before in
+    rooms (length (start .args .ends .now)) (length (start .args .breaks .now)) (length (start .args .word .now) - at-found .find-ends .result .first)
+    (at-found .find-ends .result .breaks) (passed _ (tried-at (c .before .before)) (c .before .match2 .keys1))
+
+admit-requires : tie.Need-admit-requires
+admit-requires c κs = search needs
+
+enum-told : tie.Need-enum-told
+enum-told c = search needs
+
+enum-told-2 : tie.Need-enum-told-2
+enum-told-2 c = search needs
+
+number-requires : tie.Need-number-requires
+number-requires c κs = search needs
+
+returns : tie.Need-returns
+returns c = breaks-unadmitted _ _ _ _ (c .before .before .before .admit .ensures) (c .before .before .match .keys2) (c .number .ensures)
+
+find-ends-requires : tie.Need-find-ends-requires
+find-ends-requires c κs = room-at (c .before)
+
+sub-check-result : tie.Need-sub-check-result
+sub-check-result c = search needs
+
+check-result-requires : tie.Need-check-result-requires
+check-result-requires c κs = search needs
+
+mul-check-result : tie.Need-mul-check-result
+mul-check-result c =
+    let at-found = c .before .before .before in
+    omega (arith, few-noted _ _ _ (room-at (at-found .before .before) .nonempty) (at-found .find-ends .ensures .noted), inside-at at-found)
+
+check-result-requires-2 : tie.Need-check-result-requires-2
+check-result-requires-2 c κs = search needs
+
+then-requires : tie.Need-then-requires
+then-requires c κs = search needs
+
+enum-told-3 : tie.Need-enum-told-3
+enum-told-3 c = search needs
+
+enum-told-4 : tie.Need-enum-told-4
+enum-told-4 c = search needs
+
+mul-clear : tie.Need-mul-clear
+mul-clear c = omega (arith, inside-at (c .before .before .before .before .before .before .before .before))
+
+clear-requires : tie.Need-clear-requires
+clear-requires c κs = omega (arith, inside-at (c .before .before .before .before .before .before .before .before))
+
+number-requires-2 : tie.Need-number-requires-2
+number-requires-2 c κs = search needs
+
+same-length : tie.Need-same-length
+same-length c = search needs
+
+returns-2 : tie.Need-returns-2
+returns-2 c =
+    let at-room = c .before .before .before .before .before .before in
+    let at-found = at-room .before .before .before .before .before .before in
+    breaks-refused _ _ _ _ (admitted-at (at-found .before .before)) (at-found .find-ends .ensures) (inside-at at-found .1) (c .before .before .before .clear .ensures)
+    (tried-at (at-room .before)) (at-room .match2 .keys2) (c .number2 .ensures)
+
+mul-copy : tie.Need-mul-copy
+mul-copy c = search needs
+
+sub-copy : tie.Need-sub-copy
+sub-copy c = search needs
+
+part-copy-start : tie.Need-part-copy-start
+part-copy-start c = search needs
+
+part-copy-end : tie.Need-part-copy-end
+part-copy-end c = omega (arith, inside-at (c .before .before .before .before .before .before .before .before))
+
+copy-requires : tie.Need-copy-requires
+copy-requires c κs = let space = fits-at (c .before .before .before) in simp (length-take, length-drop) (omega (arith, space .0))
+
+write-breaks-requires : tie.Need-write-breaks-requires
+write-breaks-requires c κs =
+    let at-room = c .before .before .before .before .before .before .before .before .before in
+    let at-found = at-room .before .before .before .before .before .before in
+    let room = room-at (at-found .before .before) in
+    let found = at-found .find-ends .ensures in
+    record {
+      room = record { nonempty = room .nonempty; short = room .short; entries = inside-at at-found .0 };
+      inside = found .inside;
+      ends = found .ends;
+      noted = found .noted;
+      entries = fits-at (c .before .before .before .before .before .before .before .before) .1;
+    }
+
+mul-clear-2 : tie.Need-mul-clear-2
+mul-clear-2 c = omega (arith, inside-at (c .before .before .before .before .before .before .before .before .before .before .before .before .before .before .before .before .before .before .before))
+
+clear-requires-2 : tie.Need-clear-requires-2
+clear-requires-2 c κs = omega (arith, inside-at (c .before .before .before .before .before .before .before .before .before .before .before .before .before .before .before .before .before .before .before))
+
+sub-t11 : tie.Need-sub-t11
+sub-t11 c = search needs
+
+same-length-2 : tie.Need-same-length-2
+same-length-2 c = search needs
+
+same-length-3 : tie.Need-same-length-3
+same-length-3 c = search needs
+
+same-length-4 : tie.Need-same-length-4
+same-length-4 c = search needs
+
+returns-3 : tie.Need-returns-3
+returns-3 c =
+    let at-write = c .before .before .before .before .before .before in
+    let at-copy = at-write .before .before .before .before .before in
+    let at-room = at-copy .before .before .before .before .before in
+    let at-found = at-room .before .before .before .before .before .before in
+    breaks-written _ _ _ _ (admitted-at (at-found .before .before)) (at-found .find-ends .ensures) (inside-at at-found .1) (c .before .before .clear2 .ensures)
+    (passed _ (tried-at (at-room .before)) (at-room .match2 .keys1)) (at-copy .copy .ensures) (at-write .write-breaks .ensures)
+
+pub icfl-with-breaks-spec : {M : Type 1} → statement M
+icfl-with-breaks-spec =
+    tie.close
+    (tie.spec admit-requires enum-told enum-told-2 number-requires returns find-ends-requires sub-check-result check-result-requires
+    mul-check-result check-result-requires-2 then-requires enum-told-3 enum-told-4 mul-clear clear-requires number-requires-2 same-length
+    returns-2 mul-copy sub-copy part-copy-start part-copy-end copy-requires write-breaks-requires mul-clear-2 clear-requires-2 sub-t11
+    same-length-2 same-length-3 same-length-4 returns-3)
