@@ -1,5 +1,5 @@
--- The calls' promises as numbers: counts (filled-numbers, and that they fit: icfl-small, cfl-in-small, table-small), the test (test-numbers,
--- test-holds, test-small), the sign (sign-numbers, sign-refused).
+-- The calls' promises as numbers: counts (filled-numbers, and that they fit: icfl-small, cfl-in-small, table-small), the cut with breaks (breaks-numbers,
+-- breaks-small), the test (test-numbers, test-holds, test-small), the sign (sign-numbers, sign-refused).
 use mathlib.Core.Path.{_≡_, refl, ap, _∙_}
 use mathlib.Core.Bool.{true, false}
 use mathlib.Core.List.{List, [], _∷_, _++_}
@@ -12,7 +12,8 @@ use mir.Val.{toZ, ofZ}
 use types.Run.{OneOf}
 use denote.Enum.Declared.{tagOf}
 use Rattle.words.specs.Words.{mostLetters, sign}
-use Rattle.words.specs.Factorizations.{failingLength, prefixLength, borderLength}
+use Rattle.words.specs.Factorizations.{failingLength, prefixLength, borderLength, icflEnds, icflBreaks}
+use Rattle.words.specs.breaks.IcflBreaks.{icfl-breaks}
 use Rattle.words.specs.orders.SignLaws.{SignOf, before, equal, after, sign-is}
 use Rattle.words.specs.places.EndsRise.{rises-few, icfl-ends-rise, cfl-in-ends-rise}
 use Rattle.checks.specs.Lines.{Line, tried, decided, recordLines}
@@ -27,12 +28,14 @@ use Rattle.extension.specs.declared.Extension.{Extension}
 use Rattle.extension.specs.Extension.{extensionOf, testChecked, extensionLines, ExtensionFound}
 use Rattle.extension.proofs.VerdictLaws.{fails-told, verdict-read, verdict-checked}
 use Rattle.icfl.specs.Icfl.{IcflDone}
+use Rattle.icfl.specs.IcflBreaks.{breaksLines, breaksChecked, BreaksDone}
+use Rattle.icfl.specs.declared.CountedBreaks.{CountedBreaks}
 use Rattle.cfl.specs.CflIn.{CflInDone}
 use Rattle.table.specs.Table.{Tabled}
 use Rattle.compare.specs.declared.suffixes.Comparison.{Comparison}
 use Rattle.compare.specs.Compare.{compareLines, Compared}
 use Rattle.exports.specs.declared.Reply.{Reply}
-use Rattle.exports.specs.Exports.{ifFailing, TestNumbers, FilledNumbers, SignNumber, Small, replyOf}
+use Rattle.exports.specs.Exports.{ifFailing, TestNumbers, FilledNumbers, BreaksNumbers, SignNumber, Small, replyOf}
 
 -- ---- counts
 
@@ -63,6 +66,49 @@ cfl-in-small w ends ends′ r f = small w _ (omega (arith, rises-few (cfl-in-end
 
 pub table-small : (w out out′ : List ℕ) (r : Counted) → Tabled w out r out′ → Small r
 table-small w out out′ r f = small w _ (omega arith) f
+
+-- ---- the cut with breaks
+
+-- the two counts by their place
+abbrev factorsOf : CountedBreaks → ℕ
+factorsOf (CountedBreaks.Counts factors breaks) = factors
+factorsOf (CountedBreaks.Refused e) = 0
+
+abbrev breaksOf : CountedBreaks → ℕ
+breaksOf (CountedBreaks.Counts factors breaks) = breaks
+breaksOf (CountedBreaks.Refused e) = 0
+
+module _ (w work ends breaks work′ ends′ breaks′ : List ℕ) where
+  abbrev lines : List Line
+  lines = breaksLines w (length work) (length ends) (length breaks)
+
+  pub breaks-numbers : (r : CountedBreaks) → BreaksDone w work ends breaks r work′ ends′ breaks′
+      → BreaksNumbers w work ends breaks (numberOf (breaksChecked r)) (factorsOf r) (breaksOf r) work′ ends′ breaks′
+  breaks-numbers r f =
+      let counts : CountedBreaks = CountedBreaks.Counts (length (icflEnds w)) (length (icflBreaks w)) in
+      let refusal : ℕ → CountedBreaks = λ i. CountedBreaks.Refused i in
+      record {
+        refusal = ap (λ t. numberOf (breaksChecked t)) (f .answer) ∙ reading (λ t. numberOf (breaksChecked t)) counts refusal (tried lines);
+        count-is = ap factorsOf (f .answer) ∙ reading factorsOf counts refusal (tried lines);
+        breaks-count = ap breaksOf (f .answer) ∙ reading breaksOf counts refusal (tried lines);
+        ends-are = f .ends-are;
+        breaks-are = f .breaks-are;
+        worked = f .worked;
+      }
+
+  -- both counts are at most the length
+  pub breaks-small : (n m : ℕ) → BreaksDone w work ends breaks (CountedBreaks.Counts n m) work′ ends′ breaks′ → (n ≤ mostLetters) × (m ≤ mostLetters)
+  breaks-small n m f = go (tried lines) refl (f .answer)
+    where
+      go : (k : Checked) → tried lines ≡ k
+          → CountedBreaks.Counts n m ≡ decided k (CountedBreaks.Counts (length (icflEnds w)) (length (icflBreaks w))) CountedBreaks.Refused
+          → (n ≤ mostLetters) × (m ≤ mostLetters)
+      go Passed z x =
+          let a = accepted w _ z in
+          let p : n ≡ length (icflEnds w) = cc in
+          let q : m ≡ length (icflBreaks w) = cc in
+          (omega (arith, p, rises-few (icfl-ends-rise w), a .short), omega (arith, q, icfl-breaks w (a .nonempty) .few, a .short))
+      go (Refused number) z x = let b : _≡_ {A = ℕ} 0 1 = cc in absurd (omega arith)
 
 -- ---- the test
 

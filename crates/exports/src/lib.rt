@@ -4,10 +4,11 @@ use checks::Checked;
 use checks::Counted;
 use compare::Comparison;
 use extension::Extension;
+use icfl::CountedBreaks;
 use summary::Summary;
 ghost use mathlib.Core.Path.{_≡_};
 ghost use Rattle.summary.specs.Summary.{Summarized};
-ghost use Rattle.exports.specs.Exports.{Small, replyOf, TestNumbers, IcflNumbers, CflInNumbers, TableNumbers, SignNumber, FactorNumbers};
+ghost use Rattle.exports.specs.Exports.{Small, replyOf, TestNumbers, IcflNumbers, BreaksNumbers, CflInNumbers, TableNumbers, SignNumber, FactorNumbers};
 
 /// A count or a refusal, as two numbers.
 pub struct Reply {
@@ -73,6 +74,35 @@ pub extern "C" fn metsroeb_icfl(
     let pieces = numbers_of(icfl::icfl(word, work, ends));
     *count = pieces.count;
     pieces.refusal
+}
+
+#[no_mangle]
+pub extern "C" fn metsroeb_icfl_breaks(
+    word: &[u8],
+    work: &mut [u16],
+    ends: &mut [u16],
+    breaks: &mut [u16],
+    count: &mut u16,
+    break_count: &mut u16,
+) -> u8
+    ensures { λ r. ⌜ BreaksNumbers (now (word .entry)) (now (work .entry)) (now (ends .entry)) (now (breaks .entry)) r (now (count .exit)) (now («break_count» .exit)) (now (work .exit)) (now (ends .exit)) (now (breaks .exit)) ⌝ }
+{
+    let found = icfl::icfl_with_breaks(word, work, ends, breaks);
+    match found {
+        CountedBreaks::Counts {
+            factors,
+            breaks: steps,
+        } => {
+            *count = factors as u16;
+            *break_count = steps as u16;
+            0
+        }
+        CountedBreaks::Refused(e) => {
+            *count = 0;
+            *break_count = 0;
+            e
+        }
+    }
 }
 
 #[no_mangle]
