@@ -16,15 +16,16 @@
  *   1  all         record_len is 0
  *   2  all         record_len is above 4,096
  *   3  test        work_len is below record_len
- *      icfl        work_len is below 3 * record_len
- *   4  icfl, cfl_in, lyndon_table   the result buffer has fewer entries than the answer
+ *      icfl, icfl_breaks   work_len is below 3 * record_len
+ *   4  icfl, icfl_breaks, cfl_in, lyndon_table   a result buffer has fewer entries than the answer
  *   5  compare     first is not below end, or end is above record_len
  *   6  compare     start or other is below first, or not below end
  *   7  factor, summarize   ends is empty, begins with 0, does not rise strictly, or its last end is not record_len
  *   8  factor      number is not below ends_len
  *
- * Beside a refusal the numbers written through pointers are 0, and every buffer is as it was; only icfl refused by 4
- * has cleared its work buffer as after a result. Entries past those that a function is said to write stay as they were.
+ * Beside a refusal the numbers written through pointers are 0, and every buffer is as it was; only icfl and icfl_breaks
+ * refused by 4 have cleared their work buffer as after a result. Entries past those that a function is said to write
+ * stay as they were.
  */
 #ifndef METSROEB_H
 #define METSROEB_H
@@ -60,6 +61,18 @@ uint8_t metsroeb_test(const uint8_t *record, size_t record_len, uint16_t *work, 
  * Refusals 1, 2, 3, 4. */
 uint8_t metsroeb_icfl(const uint8_t *record, size_t record_len, uint16_t *work, size_t work_len,
                       uint16_t *ends, size_t ends_len, uint16_t *count);
+
+/* The piece cut with its breaks: writes ends and *count as icfl does, and to breaks, from entry 0 and from left to
+ * right, every break that the cut considered, their number to *break_count. A step of the cut begins at 0 or at the
+ * break before it and tests the record from there on; if that fails, the break is where the test's p ends. It fills
+ * five entries: this place; the place where the step began; |r|; then, for a break that was kept, the bytes a and b,
+ * which lie |r| past where the step began and |r| past the break; for one that was joined, 256 and |r| less the length
+ * of the factor that was joined to p. The places that were kept, and record_len, are the ends.
+ * 5 * record_len entries of breaks are always enough; an inverse Lyndon record has no break and needs none.
+ * work: as for icfl. Refusals 1, 2, 3, 4 for ends, 4 for breaks; after either 4 both are as they were. */
+uint8_t metsroeb_icfl_breaks(const uint8_t *record, size_t record_len, uint16_t *work, size_t work_len,
+                             uint16_t *ends, size_t ends_len, uint16_t *breaks, size_t breaks_len,
+                             uint16_t *count, uint16_t *break_count);
 
 /* The strict cut, the Lyndon factorization in the inverse order (its factors are anti-Lyndon words): writes the ends
  * of the factors to ends, from entry 0, and their number to *count. record_len entries are always enough.

@@ -1,4 +1,5 @@
 //! Answers that are more than a number or a slice.
+use core::slice;
 
 /// What [`find_extension`](crate::find_extension) finds.
 #[derive(Clone, Copy, Debug, PartialEq, Eq)]
@@ -15,6 +16,69 @@ pub enum Extension {
         border: usize,
     },
 }
+
+/// A break that the piece cut considered. Of the record from `begun` on, the shortest prefix that is not inverse Lyndon is
+/// r a u r b, a < b, with the shortest r; p is that prefix without its last |r| + 1 letters.
+#[derive(Clone, Copy, Debug, PartialEq, Eq)]
+pub struct Break {
+    /// Where p ends.
+    pub place: u16,
+    /// Where the step began: at the break before, the first one at 0.
+    pub begun: u16,
+    /// |r|.
+    pub border: u16,
+    /// What became of it.
+    pub fate: Fate,
+}
+
+/// What became of a break: by the first factor of the cut of what follows it.
+#[derive(Clone, Copy, Debug, PartialEq, Eq)]
+pub enum Fate {
+    /// That factor is longer than |r|: a factor ends here. The letters a, at `begun` + |r|, and b, at `place` + |r|.
+    Kept(u8, u8),
+    /// It is not, and was joined to p: |r| less its length.
+    Joined(u16),
+}
+
+/// The five entries of a break, as [`metsroeb_icfl_breaks`](crate::raw::metsroeb_icfl_breaks) writes them.
+impl From<[u16; 5]> for Break {
+    #[inline]
+    fn from([place, begun, border, fourth, fifth]: [u16; 5]) -> Break {
+        let fate = match fourth {
+            256 => Fate::Joined(fifth),
+            _ => Fate::Kept(fourth as u8, fifth as u8),
+        };
+        Break { place, begun, border, fate }
+    }
+}
+
+/// The breaks of a record, from left to right, read from the entries that [`icfl_with_breaks`](crate::icfl_with_breaks) filled.
+#[derive(Clone, Debug)]
+pub struct Breaks<'a>(slice::Iter<'a, [u16; 5]>);
+
+impl<'a> Breaks<'a> {
+    /// The breaks in the entries that [`metsroeb_icfl_breaks`](crate::raw::metsroeb_icfl_breaks) filled.
+    #[inline]
+    pub fn read(entries: &'a [u16]) -> Breaks<'a> {
+        Breaks(entries.as_chunks().0.iter())
+    }
+}
+
+impl Iterator for Breaks<'_> {
+    type Item = Break;
+
+    #[inline]
+    fn next(&mut self) -> Option<Break> {
+        self.0.next().map(|&entries| entries.into())
+    }
+
+    #[inline]
+    fn size_hint(&self) -> (usize, Option<usize>) {
+        self.0.size_hint()
+    }
+}
+
+impl ExactSizeIterator for Breaks<'_> {}
 
 /// What the factors that a list of ends marks come to.
 #[derive(Clone, Copy, Debug, PartialEq, Eq)]

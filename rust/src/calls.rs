@@ -3,7 +3,7 @@
 //! and what is lent to be written overlaps nothing else.
 //!
 //! The tests compile this file a second time over a `raw` of their own, so it takes its names from the module above it.
-use super::{raw, Extension, Refusal, Summary};
+use super::{raw, Breaks, Extension, Refusal, Summary};
 use core::cmp::Ordering;
 
 /// The test: whether the record is inverse Lyndon, and if not, where and how it fails.
@@ -65,6 +65,55 @@ pub fn icfl<'a>(record: &[u8], work: &mut [u16], ends: &'a mut [u16]) -> Result<
         )
     })?;
     Ok(&ends[..usize::from(count)])
+}
+
+/// The piece cut with its breaks: the ends of the factors, as [`icfl`] gives them, and every [`Break`](crate::Break) that the cut
+/// considered, from left to right. The places of those that were kept and the record's length are the ends.
+///
+/// A break fills five entries of `breaks`. Five times as many as the record has bytes are always enough, and an inverse Lyndon
+/// record, which has no break, needs none. `ends` and `work` are as for [`icfl`]; after
+/// [`SHORT_RESULT`](Refusal::SHORT_RESULT), of either, `ends` and `breaks` are as they were.
+///
+/// Refusals: [`EMPTY_RECORD`](Refusal::EMPTY_RECORD), [`LONG_RECORD`](Refusal::LONG_RECORD),
+/// [`SHORT_WORK`](Refusal::SHORT_WORK), [`SHORT_RESULT`](Refusal::SHORT_RESULT).
+///
+/// ```
+/// use metsroeb::{icfl_with_breaks, Break, Fate, Refusal};
+///
+/// let record = b"cbabacaacbabacbac";
+/// let (mut work, mut ends, mut breaks) = ([0; 3 * 17], [0; 17], [0; 5 * 17]);
+/// let (ends, breaks) = icfl_with_breaks(record, &mut work, &mut ends, &mut breaks)?;
+/// assert_eq!(ends, [13, 17]);
+/// assert!(breaks.eq([
+///     Break { place: 8, begun: 0, border: 6, fate: Fate::Joined(1) },
+///     Break { place: 13, begun: 8, border: 3, fate: Fate::Kept(b'b', b'c') },
+/// ]));
+/// assert_eq!(icfl_with_breaks(record, &mut work, &mut [0; 2], &mut [0; 9]).err(), Some(Refusal::SHORT_RESULT));
+/// # Ok::<(), Refusal>(())
+/// ```
+#[inline]
+pub fn icfl_with_breaks<'a>(
+    record: &[u8],
+    work: &mut [u16],
+    ends: &'a mut [u16],
+    breaks: &'a mut [u16],
+) -> Result<(&'a [u16], Breaks<'a>), Refusal> {
+    let (mut count, mut break_count) = (0, 0);
+    Refusal::check(unsafe {
+        raw::metsroeb_icfl_breaks(
+            record.as_ptr(),
+            record.len(),
+            work.as_mut_ptr(),
+            work.len(),
+            ends.as_mut_ptr(),
+            ends.len(),
+            breaks.as_mut_ptr(),
+            breaks.len(),
+            &mut count,
+            &mut break_count,
+        )
+    })?;
+    Ok((&ends[..usize::from(count)], Breaks::read(&breaks[..5 * usize::from(break_count)])))
 }
 
 /// The strict cut, the Lyndon factorization in the inverse order: the ends of its factors, which are anti-Lyndon words. They

@@ -17,8 +17,8 @@
 //! ```
 //!
 //! Buffers are lent as they are: their content before a call does not matter. A refusal leaves every buffer as it was, but
-//! for [`icfl`]'s work buffer after [`Refusal::SHORT_RESULT`]; entries past those that a call is said to write stay as they
-//! were.
+//! for the work buffer of [`icfl`] and [`icfl_with_breaks`] after [`Refusal::SHORT_RESULT`]; entries past those that a call is
+//! said to write stay as they were.
 #![no_std]
 #![warn(missing_docs)]
 
@@ -27,8 +27,8 @@ mod calls;
 pub mod raw;
 mod refusal;
 
-pub use answers::{Extension, Summary};
-pub use calls::{cfl_in, compare_suffixes, factor_at, find_extension, icfl, lyndon_table, summarize};
+pub use answers::{Break, Breaks, Extension, Fate, Summary};
+pub use calls::{cfl_in, compare_suffixes, factor_at, find_extension, icfl, icfl_with_breaks, lyndon_table, summarize};
 pub use refusal::Refusal;
 
 /// The most bytes of a record.

@@ -45,6 +45,21 @@ extern "C" {
         count: *mut u16,
     ) -> u8;
 
+    /// The piece cut with its breaks: see [`icfl_with_breaks`](crate::icfl_with_breaks). [`Breaks::read`](crate::Breaks::read)
+    /// reads the entries of the breaks, five for each.
+    pub fn metsroeb_icfl_breaks(
+        record: *const u8,
+        record_len: usize,
+        work: *mut u16,
+        work_len: usize,
+        ends: *mut u16,
+        ends_len: usize,
+        breaks: *mut u16,
+        breaks_len: usize,
+        count: *mut u16,
+        break_count: *mut u16,
+    ) -> u8;
+
     /// The strict cut: see [`cfl_in`](crate::cfl_in).
     pub fn metsroeb_cfl_in(record: *const u8, record_len: usize, ends: *mut u16, ends_len: usize, count: *mut u16) -> u8;
 

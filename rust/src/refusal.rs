@@ -21,9 +21,10 @@ impl Refusal {
     pub const EMPTY_RECORD: Refusal = Refusal::line(1);
     /// All calls: the record is longer than [`MOST`](crate::MOST).
     pub const LONG_RECORD: Refusal = Refusal::line(2);
-    /// Test, piece cut: the work buffer has fewer entries than the record's length (test) or three times that (piece cut).
+    /// Test, piece cut (also with its breaks): the work buffer has fewer entries than the record's length (test) or three times
+    /// that (piece cut).
     pub const SHORT_WORK: Refusal = Refusal::line(3);
-    /// Both cuts, start table: the result buffer has fewer entries than the answer.
+    /// Both cuts, also the one with breaks, start table: a result buffer has fewer entries than the answer.
     pub const SHORT_RESULT: Refusal = Refusal::line(4);
     /// Comparison: the range's first place is not below its end, or its end is above the record's length.
     pub const BAD_RANGE: Refusal = Refusal::line(5);

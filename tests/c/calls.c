@@ -1,5 +1,5 @@
-/* Calls each function on record H and compares the answers with paper 01's; the summary also where two parts are equally
- * long. */
+/* Calls each function on record H and compares the answers with paper 01's; the cut with its breaks on record I, as request
+ * 102 has it; the summary also where two parts are equally long. */
 #include "metsroeb.h"
 
 #include <stdio.h>
@@ -29,15 +29,18 @@ static void expect_entries(const char *what, const uint16_t *got, const uint16_t
 int main(void)
 {
     static const uint8_t record[] = {'c', 'b', 'a', 'b', 'a', 'c', 'b', 'a', 'c'};
-    static const uint16_t zeros[27];
+    static const uint8_t joined[] = "cbabacaacbabacbac";
+    static const uint16_t zeros[51];
     static const uint16_t pieces[] = {5, 9};
+    static const uint16_t joined_ends[] = {13, 17};
+    static const uint16_t joined_breaks[] = {8, 0, 6, 256, 1, 13, 8, 3, 'b', 'c'};
     static const uint16_t strict[] = {5, 8, 9};
     static const uint16_t table[] = {5, 2, 1, 2, 1, 3, 2, 1, 1};
     static const uint16_t bands[13] = {0, 0, 2};
     static const uint16_t equal[] = {4, 8, 9};
     const size_t n = sizeof record;
-    uint16_t work[27], ends[9], lengths[9];
-    uint16_t failing = 77, prefix = 77, border = 77, count = 77, first = 77, end = 77;
+    uint16_t work[51], ends[9], breaks[10], lengths[9];
+    uint16_t failing = 77, prefix = 77, border = 77, count = 77, break_count = 77, first = 77, end = 77;
     int8_t sign = 77;
     metsroeb_summary summary;
 
@@ -58,6 +61,17 @@ int main(void)
     expect("icfl: count", count, 2);
     expect_entries("icfl: ends", ends, pieces, 2);
     expect_entries("icfl: work", work, zeros, 27);
+
+    memset(work, 0x5a, sizeof work);
+    expect("icfl_breaks", metsroeb_icfl_breaks(joined, 17, work, 51, ends, 2, breaks, 10, &count, &break_count), 0);
+    expect("icfl_breaks: count", count, 2);
+    expect("icfl_breaks: break_count", break_count, 2);
+    expect_entries("icfl_breaks: ends", ends, joined_ends, 2);
+    expect_entries("icfl_breaks: breaks", breaks, joined_breaks, 10);
+    expect_entries("icfl_breaks: work", work, zeros, 51);
+    expect("icfl_breaks, room for one", metsroeb_icfl_breaks(joined, 17, work, 51, ends, 2, breaks, 9, &count, &break_count), 4);
+    expect("icfl_breaks, room for one: count", count, 0);
+    expect("icfl_breaks, room for one: break_count", break_count, 0);
 
     expect("lyndon_table", metsroeb_lyndon_table(record, n, lengths, 9, &count), 0);
     expect("lyndon_table: count", count, 9);

@@ -2,26 +2,34 @@
 use crate::lent::Lent;
 use crate::words::Random;
 use crate::{promise, reference, Calls, Filling, PEER};
-use metsroeb::{Extension, Refusal};
+use metsroeb::{Break, Extension, Refusal};
 use std::fmt::Debug;
 
 /// The right answers for a word.
 pub struct Answers {
     pub extension: Extension,
     pub icfl: Vec<u16>,
+    pub breaks: Vec<Break>,
     pub cfl_in: Vec<u16>,
     pub lyndon_table: Vec<u16>,
 }
 
 impl Answers {
     /// For a record that is refused: none is looked at.
-    pub const NONE: Answers =
-        Answers { extension: Extension::InverseLyndon, icfl: Vec::new(), cfl_in: Vec::new(), lyndon_table: Vec::new() };
+    pub const NONE: Answers = Answers {
+        extension: Extension::InverseLyndon,
+        icfl: Vec::new(),
+        breaks: Vec::new(),
+        cfl_in: Vec::new(),
+        lyndon_table: Vec::new(),
+    };
 
     pub fn by_definition(word: &[u8]) -> Answers {
+        let (icfl, breaks) = reference::icfl_with_breaks(word);
         Answers {
             extension: reference::find_extension(word),
-            icfl: reference::icfl(word),
+            icfl,
+            breaks,
             cfl_in: reference::cfl_in(word),
             lyndon_table: reference::lyndon_table(word),
         }
@@ -30,10 +38,11 @@ impl Answers {
     /// For words that are too long for the definitions.
     pub fn by_peer(word: &[u8]) -> Answers {
         let n = word.len();
-        let (mut work, mut result) = (vec![0; 3 * n], vec![0; n]);
+        let (mut work, mut result, mut breaks) = (vec![0; 3 * n], vec![0; n], vec![0; 5 * n]);
         Answers {
             extension: (PEER.find_extension)(word, &mut work).unwrap(),
             icfl: (PEER.icfl)(word, &mut work, &mut result).unwrap().to_vec(),
+            breaks: (PEER.icfl_with_breaks)(word, &mut work, &mut result, &mut breaks).unwrap().1.collect(),
             cfl_in: (PEER.cfl_in)(word, &mut result).unwrap().to_vec(),
             lyndon_table: (PEER.lyndon_table)(word, &mut result).unwrap().to_vec(),
         }
@@ -83,6 +92,26 @@ pub fn icfl(calls: &Calls, word: &[u8], answers: &Answers, work_len: usize, ends
     same(&what, got, promise::icfl(word.len(), &answers.icfl, work_after.part(), ends_after.part()));
     ends.expect(&ends_after, &what);
     work.expect(&work_after, &what);
+    record.expect(&record_before, &what);
+}
+
+/// `sizes` are the numbers of work entries, of entries for the ends and of entries for the breaks.
+pub fn icfl_with_breaks(calls: &Calls, word: &[u8], answers: &Answers, sizes: [usize; 3], random: &mut Random) {
+    let what = format!("icfl_with_breaks with {sizes:?} entries on {}", shown(word));
+    let mut record = Lent::record(word, random);
+    let mut buffers = sizes.map(|size| Lent::entries(size, random));
+    let (record_before, mut buffers_after) = (record.clone(), buffers.clone());
+    let [work, ends, breaks] = buffers.each_mut().map(Lent::part);
+    let place = ends.as_ptr();
+    let got = (calls.icfl_with_breaks)(record.part(), work, ends, breaks);
+    let considered: Vec<Break> = got.iter().flat_map(|(_, breaks)| breaks.clone()).collect();
+    let got = got.map(|(ends, _)| (ends, &considered[..]));
+    begins(&what, got.map(|(ends, _)| ends), place);
+    let [work, ends, breaks] = buffers_after.each_mut().map(Lent::part);
+    same(&what, got, promise::icfl_with_breaks(word.len(), (&answers.icfl, &answers.breaks), work, ends, breaks));
+    for (buffer, after) in buffers.iter().zip(&buffers_after) {
+        buffer.expect(after, &what);
+    }
     record.expect(&record_before, &what);
 }
 
@@ -147,7 +176,7 @@ pub fn all(calls: &Calls, word: &[u8], answers: &Answers, random: &mut Random) {
     let n = word.len();
     let about = |needed: usize, random: &mut Random| match random.below(4) {
         0 => needed,
-        1 => needed - 1,
+        1 => needed.saturating_sub(1),
         _ => needed + random.below(10),
     };
     let work_len = about(n, random);
@@ -155,6 +184,9 @@ pub fn all(calls: &Calls, word: &[u8], answers: &Answers, random: &mut Random) {
     let (work_len, ends_len) = (about(3 * n, random), about(answers.icfl.len(), random));
     icfl(calls, word, answers, work_len, ends_len, random);
     icfl(calls, word, answers, 3 * n + random.below(2), n, random);
+    let sizes = [3 * n, answers.icfl.len(), 5 * answers.breaks.len()].map(|needed| about(needed, random));
+    icfl_with_breaks(calls, word, answers, sizes, random);
+    icfl_with_breaks(calls, word, answers, [3 * n + random.below(2), n, 5 * n], random);
     let ends_len = about(answers.cfl_in.len(), random);
     cfl_in(calls, word, answers, ends_len, random);
     cfl_in(calls, word, answers, n, random);

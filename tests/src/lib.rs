@@ -6,16 +6,17 @@ pub mod promise; // refusals and buffers, by paper 01's table
 pub mod reference; // answers, by paper 01's definitions
 pub mod words; // words of many kinds, from a seed
 
-use metsroeb::{Extension, Refusal, Summary};
+use metsroeb::{Breaks, Extension, Refusal, Summary};
 use std::cmp::Ordering;
 
 pub type Filling = for<'a> fn(&[u8], &'a mut [u16]) -> Result<&'a [u16], Refusal>;
 
-/// An implementation of the crate's seven calls.
+/// An implementation of the crate's eight calls.
 #[allow(clippy::type_complexity)] // the crate's signatures
 pub struct Calls {
     pub find_extension: fn(&[u8], &mut [u16]) -> Result<Extension, Refusal>,
     pub icfl: for<'a> fn(&[u8], &mut [u16], &'a mut [u16]) -> Result<&'a [u16], Refusal>,
+    pub icfl_with_breaks: for<'a> fn(&[u8], &mut [u16], &'a mut [u16], &'a mut [u16]) -> Result<(&'a [u16], Breaks<'a>), Refusal>,
     pub cfl_in: Filling,
     pub lyndon_table: Filling,
     pub compare_suffixes: fn(&[u8], usize, usize, usize, usize) -> Result<Ordering, Refusal>,
@@ -28,6 +29,7 @@ macro_rules! calls_of {
         Calls {
             find_extension: $of::find_extension,
             icfl: $of::icfl,
+            icfl_with_breaks: $of::icfl_with_breaks,
             cfl_in: $of::cfl_in,
             lyndon_table: $of::lyndon_table,
             compare_suffixes: $of::compare_suffixes,

@@ -2,7 +2,7 @@
 //! the buffers as they were before it, and leaves them as they have to be after it. It gives the right answer, or the number of
 //! the refusal.
 use crate::reference::{factors, inverse_order, summary};
-use metsroeb::{Extension, Summary};
+use metsroeb::{Break, Extension, Fate, Summary};
 use std::cmp::Ordering;
 
 fn refuse(no: u8, met: bool) -> Result<(), u8> {
@@ -37,6 +37,32 @@ pub fn icfl<'a>(length: usize, answer: &'a [u16], work: &mut [u16], ends: &mut [
     refuse(3, work.len() < 3 * length)?;
     work[..3 * length].fill(0);
     fill(answer, ends)
+}
+
+pub fn icfl_with_breaks<'a>(
+    length: usize,
+    (ends_answer, breaks_answer): (&'a [u16], &'a [Break]),
+    work: &mut [u16],
+    ends: &mut [u16],
+    breaks: &mut [u16],
+) -> Result<(&'a [u16], &'a [Break]), u8> {
+    record(length)?;
+    refuse(3, work.len() < 3 * length)?;
+    work[..3 * length].fill(0);
+    refuse(4, ends.len() < ends_answer.len())?;
+    refuse(4, breaks.len() < 5 * breaks_answer.len())?;
+    fill(ends_answer, ends)?;
+    fill(&entries(breaks_answer), breaks)?;
+    Ok((ends_answer, breaks_answer))
+}
+
+/// Five entries for each break.
+fn entries(breaks: &[Break]) -> Vec<u16> {
+    let five = |&Break { place, begun, border, fate }: &Break| match fate {
+        Fate::Kept(a, b) => [place, begun, border, a.into(), b.into()],
+        Fate::Joined(shortfall) => [place, begun, border, 256, shortfall],
+    };
+    breaks.iter().flat_map(five).collect()
 }
 
 /// The strict cut and the start table.

@@ -1,5 +1,5 @@
 //! The answers, by paper 01's definitions and nothing else: for short words.
-use metsroeb::{Extension, Summary};
+use metsroeb::{Break, Extension, Fate, Summary};
 use std::cmp::Ordering;
 
 /// The inverse order: a proper prefix comes first, and at a first difference the larger byte.
@@ -36,26 +36,38 @@ pub fn find_extension(word: &[u8]) -> Extension {
     Extension::Failing { failing, prefix: last - border, border }
 }
 
-/// The piece cut, by its recursion: the lengths of the pieces.
-fn pieces(word: &[u8]) -> Vec<usize> {
-    let Extension::Failing { prefix, border, .. } = find_extension(word) else { return vec![word.len()] };
-    let mut rest = pieces(&word[prefix..]);
-    if rest[0] <= border {
-        rest[0] += prefix;
+/// The piece cut, by its recursion, of the word that begins at the place `begun` of a record: the lengths of the pieces, and the
+/// breaks in the record's places.
+fn pieces(word: &[u8], begun: usize) -> (Vec<usize>, Vec<Break>) {
+    let Extension::Failing { prefix, border, .. } = find_extension(word) else { return (vec![word.len()], vec![]) };
+    let place = begun + prefix;
+    let (mut pieces, mut breaks) = pieces(&word[prefix..], place);
+    let fate = if pieces[0] <= border {
+        let shortfall = border - pieces[0];
+        pieces[0] += prefix;
+        Fate::Joined(shortfall as u16)
     } else {
-        rest.insert(0, prefix);
-    }
-    rest
+        pieces.insert(0, prefix);
+        Fate::Kept(word[border], word[prefix + border])
+    };
+    breaks.insert(0, Break { place: place as u16, begun: begun as u16, border: border as u16, fate });
+    (pieces, breaks)
+}
+
+/// The ends of the piece cut, and its breaks.
+pub fn icfl_with_breaks(word: &[u8]) -> (Vec<u16>, Vec<Break>) {
+    let (pieces, breaks) = pieces(word, 0);
+    let mut end = 0;
+    let ends = pieces.into_iter().map(|length| {
+        end += length;
+        end as u16
+    });
+    (ends.collect(), breaks)
 }
 
 /// The ends of the piece cut.
 pub fn icfl(word: &[u8]) -> Vec<u16> {
-    let mut end = 0;
-    let ends = pieces(word).into_iter().map(|length| {
-        end += length;
-        end as u16
-    });
-    ends.collect()
+    icfl_with_breaks(word).0
 }
 
 /// Whether the list of ends divides the word into anti-Lyndon words, each equal to the next or after it in the inverse order.

@@ -1,5 +1,5 @@
 //! Paper 01's records with known ends, and what else it says of records by name, through every implementation.
-use metsroeb::{Extension, Refusal, Summary, MOST};
+use metsroeb::{Break, Extension, Fate, Refusal, Summary, MOST};
 use metsroeb_tests::{reference, Calls, PEER, VERIFIED};
 use std::cmp::Ordering;
 
@@ -32,6 +32,62 @@ fn records_a_to_k() {
             let (mut work, mut ends) = (vec![0; 3 * word.len()], vec![0; word.len()]);
             assert_eq!((calls.icfl)(word, &mut work, &mut ends), Ok(pieces));
             assert_eq!((calls.cfl_in)(word, &mut ends), Ok(strict));
+        }
+    }
+}
+
+/// Request 102, with its example, record I. The others: joined with 0; one join inside another; no break, and then no room for
+/// breaks is needed; a break after every letter but the last.
+#[test]
+fn breaks_of_records() {
+    use Fate::{Joined, Kept};
+    let with = |place, begun, border, fate| Break { place, begun, border, fate };
+    let records: [(&str, &[u16], &[Break]); 5] = [
+        ("cbabacaacbabacbac", &[13, 17], &[with(8, 0, 6, Joined(1)), with(13, 8, 3, Kept(b'b', b'c'))]),
+        ("baababb", &[5, 7], &[with(3, 0, 2, Joined(0)), with(5, 3, 1, Kept(b'a', b'b'))]),
+        (
+            "cbabacaacbabaacbabacaacbabacbac",
+            &[27, 31],
+            &[with(14, 0, 13, Joined(0)), with(22, 14, 6, Joined(1)), with(27, 22, 3, Kept(b'b', b'c'))],
+        ),
+        ("baba", &[4], &[]),
+        (
+            "abcd",
+            &[1, 2, 3, 4],
+            &[with(1, 0, 0, Kept(b'a', b'b')), with(2, 1, 0, Kept(b'b', b'c')), with(3, 2, 0, Kept(b'c', b'd'))],
+        ),
+    ];
+    for (word, ends, breaks) in records {
+        let word = word.as_bytes();
+        assert_eq!(reference::icfl_with_breaks(word), (ends.to_vec(), breaks.to_vec()));
+        for calls in BOTH {
+            let mut lent = (vec![0; 3 * word.len()], vec![0; ends.len()], vec![0; 5 * breaks.len()]);
+            let (got, considered) = (calls.icfl_with_breaks)(word, &mut lent.0, &mut lent.1, &mut lent.2).unwrap();
+            assert_eq!((got, considered.len()), (ends, breaks.len()));
+            assert_eq!(considered.collect::<Vec<_>>(), breaks);
+        }
+    }
+}
+
+/// "In its buffer a break fills five 16-bit entries"; what lies past the answer stays.
+#[test]
+fn entries_of_i() {
+    for calls in BOTH {
+        let mut breaks = [7; 12];
+        (calls.icfl_with_breaks)(I, &mut [7; 51], &mut [7; 2], &mut breaks).unwrap();
+        assert_eq!(breaks, [8, 0, 6, 256, 1, 13, 8, 3, b'b'.into(), b'c'.into(), 7, 7]);
+    }
+}
+
+/// "A short buffer for them is met by refusal 4, once the ends have been found to fit": the ends are not written then.
+#[test]
+fn i_with_short_results() {
+    for calls in BOTH {
+        for (ends_len, breaks_len) in [(2, 9), (1, 10), (1, 9)] {
+            let (mut work, mut ends, mut breaks) = ([7; 52], [7; 2], [7; 10]);
+            let got = (calls.icfl_with_breaks)(I, &mut work, &mut ends[..ends_len], &mut breaks[..breaks_len]);
+            assert_eq!(got.err(), Some(Refusal::SHORT_RESULT));
+            assert_eq!((&work[..51], work[51], ends, breaks), (&[0; 51][..], 7, [7; 2], [7; 10]));
         }
     }
 }
@@ -101,12 +157,13 @@ fn h_with_two_entries_and_with_one() {
 /// "Length 4,096 is accepted and 4,097 gets 2", by every call.
 #[test]
 fn the_longest_record_and_one_byte_more() {
-    fn refusals(calls: &Calls, word: &[u8]) -> [Option<u8>; 7] {
+    fn refusals(calls: &Calls, word: &[u8]) -> [Option<u8>; 8] {
         let n = word.len();
-        let (mut work, mut result) = (vec![0; 3 * n], vec![0; n]);
+        let (mut work, mut result, mut breaks) = (vec![0; 3 * n], vec![0; n], vec![0; 5 * n]);
         [
             (calls.find_extension)(word, &mut work).err(),
             (calls.icfl)(word, &mut work, &mut result).err(),
+            (calls.icfl_with_breaks)(word, &mut work, &mut result, &mut breaks).err(),
             (calls.cfl_in)(word, &mut result).err(),
             (calls.lyndon_table)(word, &mut result).err(),
             (calls.compare_suffixes)(word, 0, n, 0, n - 1).err(),
@@ -118,8 +175,8 @@ fn the_longest_record_and_one_byte_more() {
     assert_eq!(MOST, 4096);
     for calls in BOTH {
         for letter in [0, b'a', 255] {
-            assert_eq!(refusals(calls, &vec![letter; 4096]), [None; 7]);
-            assert_eq!(refusals(calls, &vec![letter; 4097]), [Some(2); 7]);
+            assert_eq!(refusals(calls, &vec![letter; 4096]), [None; 8]);
+            assert_eq!(refusals(calls, &vec![letter; 4097]), [Some(2); 8]);
         }
     }
 }

@@ -69,6 +69,25 @@ fn counts() {
                     raw::metsroeb_icfl(word.as_ptr(), n, work.as_mut_ptr(), work_len, result.as_mut_ptr(), len, count)
                 });
             }
+            for breaks_len in [0, 4, 5, 5 * n] {
+                let (mut work, mut breaks) = (vec![0; 3 * n], vec![0; breaks_len]);
+                let want = metsroeb::icfl_with_breaks(&word, &mut work, &mut result, &mut breaks)
+                    .map(|(ends, breaks)| [ends.len(), breaks.len()].map(|count| count as u16));
+                expect("metsroeb_icfl_breaks", want, entries(&mut random), |[count, break_count]| unsafe {
+                    raw::metsroeb_icfl_breaks(
+                        word.as_ptr(),
+                        n,
+                        work.as_mut_ptr(),
+                        work.len(),
+                        result.as_mut_ptr(),
+                        len,
+                        breaks.as_mut_ptr(),
+                        breaks_len,
+                        count,
+                        break_count,
+                    )
+                });
+            }
             let want = metsroeb::cfl_in(&word, &mut result).map(|ends| [ends.len() as u16]);
             expect("metsroeb_cfl_in", want, entries(&mut random), |[count]| unsafe {
                 raw::metsroeb_cfl_in(word.as_ptr(), n, result.as_mut_ptr(), len, count)

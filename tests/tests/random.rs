@@ -1,6 +1,6 @@
 //! Pseudo-random words of every kind, from fixed seeds. Words of up to 200 letters go against the definitions, longer ones against
 //! the peer, which is held to the definitions on the others.
-use metsroeb::Extension;
+use metsroeb::{Break, Fate};
 use metsroeb_tests::agree::{self, Answers};
 use metsroeb_tests::words::{Random, KINDS};
 use metsroeb_tests::{reference, Calls, PEER, VERIFIED};
@@ -67,22 +67,47 @@ fn comparisons_in_long_words() {
     });
 }
 
+/// What request 102 says of the breaks of any record: the steps follow one another, the letters and numbers are those of the
+/// record and of its ends, and "the kept breaks and the record's end are exactly the piece ends".
+#[test]
+fn breaks_and_ends() {
+    words(800, 1, 4096, &mut Random::new(0x5eed_0017), |word, _| {
+        let n = word.len();
+        let (mut work, mut ends, mut breaks) = (vec![0; 3 * n], vec![0; n], vec![0; 5 * n]);
+        let (ends, breaks) = (VERIFIED.icfl_with_breaks)(&word, &mut work, &mut ends, &mut breaks).unwrap();
+        assert!(breaks.len() < n);
+        let (mut last, mut kept) = (0, Vec::new());
+        for Break { place, begun, border, fate } in breaks {
+            assert!(begun == last && begun < place && usize::from(place) < n);
+            last = place;
+            match fate {
+                Fate::Kept(a, b) => {
+                    let letters = [begun, place].map(|from| word[usize::from(from + border)]);
+                    assert!(letters == [a, b] && a < b);
+                    kept.push(place);
+                }
+                Fate::Joined(shortfall) => {
+                    let end = ends[kept.len()];
+                    assert!(place < end && shortfall + (end - place) == border);
+                }
+            }
+        }
+        kept.push(n as u16);
+        assert_eq!(kept, ends);
+    });
+}
+
 /// The tests reach what they are meant to reach: breaks that are joined, also one inside another.
 #[test]
 fn joined_breaks_are_joined() {
-    fn breaks(word: &[u8]) -> usize {
-        match reference::find_extension(word) {
-            Extension::InverseLyndon => 0,
-            Extension::Failing { prefix, .. } => 1 + breaks(&word[prefix..]),
-        }
-    }
     let (_, make) = KINDS.into_iter().find(|(name, _)| *name == "joined breaks").unwrap();
     let mut random = Random::new(0x5eed_0016);
     let (mut joined, mut joined_often) = (0, 0);
     for _ in 0..500 {
         let length = 33 + random.below(168);
         let word = make(&mut random, length);
-        let joins = breaks(&word) + 1 - reference::icfl(&word).len();
+        let (_, breaks) = reference::icfl_with_breaks(&word);
+        let joins = breaks.iter().filter(|at| matches!(at.fate, Fate::Joined(_))).count();
         joined += (joins > 0) as usize;
         joined_often += (joins > 1) as usize;
     }

@@ -36,6 +36,12 @@ fn records_and_buffers() {
                 for ends_len in sizes(&[answers.icfl.len(), n]) {
                     agree::icfl(calls, &word, &answers, work_len, ends_len, &mut random);
                 }
+                let short_and_enough = |needed: usize| [0, needed.saturating_sub(1), needed];
+                for ends_len in short_and_enough(answers.icfl.len()) {
+                    for breaks_len in short_and_enough(5 * answers.breaks.len()) {
+                        agree::icfl_with_breaks(calls, &word, &answers, [work_len, ends_len, breaks_len], &mut random);
+                    }
+                }
             }
             for len in sizes(&[answers.cfl_in.len(), n]) {
                 agree::cfl_in(calls, &word, &answers, len, &mut random);

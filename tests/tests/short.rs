@@ -27,6 +27,10 @@ fn all_calls(calls: &Calls) {
         for ends_len in 0..=n + 1 {
             for work_len in [3 * n - 1, 3 * n, 3 * n + 1] {
                 agree::icfl(calls, &word, &answers, work_len, ends_len, &mut random);
+                let needed = 5 * answers.breaks.len();
+                for breaks_len in [0, needed.saturating_sub(1), needed, needed + 1, 5 * n] {
+                    agree::icfl_with_breaks(calls, &word, &answers, [work_len, ends_len, breaks_len], &mut random);
+                }
             }
             agree::cfl_in(calls, &word, &answers, ends_len, &mut random);
             agree::lyndon_table(calls, &word, &answers, ends_len, &mut random);

@@ -55,35 +55,71 @@ pub fn find_extension(record: &[u8], work: &mut [u16]) -> Result<Extension, u8> 
     Ok(found)
 }
 
-/// Forward: the end of p and |r| of each break. Backward: the ends that are kept gather before the word's end.
-pub fn icfl(record: &[u8], work: &mut [u16], ends: &mut [u16]) -> Result<usize, u8> {
-    check_record(record)?;
-    let n = record.len();
-    let Some(work) = work.get_mut(..3 * n) else { return Err(3) };
-    let (table, stack) = work.split_at_mut(n);
+/// Forward: the end of p and |r| of each break. Backward: the ends that are kept gather before the word's end, where the borders
+/// stood. Gives the ends and the breaks.
+fn cut<'a>(record: &[u8], work: &'a mut [u16]) -> (&'a [u16], &'a [[u16; 2]]) {
+    let (table, rest) = work.split_at_mut(record.len());
+    let breaks = rest.as_chunks_mut().0;
     let (mut from, mut count) = (0, 0);
     while let Extension::Failing { prefix, border, .. } = extension_of(&record[from..], table) {
         from += prefix;
-        stack[2 * count] = from as u16;
-        stack[2 * count + 1] = border as u16;
+        breaks[count] = [from as u16, border as u16];
         count += 1;
     }
-    stack[2 * count] = n as u16;
-    let mut top = 2 * count;
-    for k in (0..count).rev() {
-        let (end, border) = (stack[2 * k], stack[2 * k + 1]);
-        if end + border < stack[top] {
+    let breaks = &breaks[..count];
+    let mut top = record.len() - 1;
+    table[top] = record.len() as u16;
+    for &[place, border] in breaks.iter().rev() {
+        if place + border < table[top] {
             top -= 1;
-            stack[top] = end;
+            table[top] = place;
         }
     }
-    let found = &stack[top..=2 * count];
+    (&table[top..], breaks)
+}
+
+pub fn icfl(record: &[u8], work: &mut [u16], ends: &mut [u16]) -> Result<usize, u8> {
+    check_record(record)?;
+    let Some(work) = work.get_mut(..3 * record.len()) else { return Err(3) };
+    let (found, _) = cut(record, work);
     let answer = match ends.get_mut(..found.len()) {
         Some(ends) => {
             ends.copy_from_slice(found);
             Ok(found.len())
         }
         None => Err(4),
+    };
+    work.fill(0);
+    answer
+}
+
+/// A break is kept where its place is the next end.
+fn write_breaks(record: &[u8], ends: &[u16], breaks: &[[u16; 2]], result: &mut [[u16; 5]]) {
+    let (mut begun, mut kept) = (0, 0);
+    for (entries, &[place, border]) in result.iter_mut().zip(breaks) {
+        let end = ends[kept];
+        let [fourth, fifth] = if place == end {
+            kept += 1;
+            [begun, place].map(|from| record[(from + border) as usize].into())
+        } else {
+            [256, border - (end - place)]
+        };
+        *entries = [place, begun, border, fourth, fifth];
+        begun = place;
+    }
+}
+
+pub fn icfl_with_breaks(record: &[u8], work: &mut [u16], ends: &mut [u16], breaks: &mut [u16]) -> Result<(usize, usize), u8> {
+    check_record(record)?;
+    let Some(work) = work.get_mut(..3 * record.len()) else { return Err(3) };
+    let (found, considered) = cut(record, work);
+    let answer = match (ends.get_mut(..found.len()), breaks.get_mut(..5 * considered.len())) {
+        (Some(ends), Some(breaks)) => {
+            ends.copy_from_slice(found);
+            write_breaks(record, found, considered, breaks.as_chunks_mut().0);
+            Ok((found.len(), considered.len()))
+        }
+        _ => Err(4),
     };
     work.fill(0);
     answer

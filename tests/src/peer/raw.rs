@@ -1,5 +1,5 @@
 //! The header's functions over the peer's algorithms. The caller keeps the header's terms.
-#![allow(clippy::missing_safety_doc)]
+#![allow(clippy::missing_safety_doc, clippy::too_many_arguments)]
 use super::{plain, Extension};
 pub use metsroeb::raw::Summary;
 use std::slice::{from_raw_parts, from_raw_parts_mut};
@@ -44,6 +44,29 @@ pub unsafe extern "C" fn metsroeb_icfl(
     let answer =
         plain::icfl(from_raw_parts(record, record_len), from_raw_parts_mut(work, work_len), from_raw_parts_mut(ends, ends_len));
     store_count(answer, &mut *count)
+}
+
+#[inline(never)]
+pub unsafe extern "C" fn metsroeb_icfl_breaks(
+    record: *const u8,
+    record_len: usize,
+    work: *mut u16,
+    work_len: usize,
+    ends: *mut u16,
+    ends_len: usize,
+    breaks: *mut u16,
+    breaks_len: usize,
+    count: *mut u16,
+    break_count: *mut u16,
+) -> u8 {
+    let answer = plain::icfl_with_breaks(
+        from_raw_parts(record, record_len),
+        from_raw_parts_mut(work, work_len),
+        from_raw_parts_mut(ends, ends_len),
+        from_raw_parts_mut(breaks, breaks_len),
+    );
+    store_count(answer.map(|(_, breaks)| breaks), &mut *break_count);
+    store_count(answer.map(|(ends, _)| ends), &mut *count)
 }
 
 #[inline(never)]
