@@ -9,6 +9,6 @@ mod raw;
 #[path = "../../target/earlier/rust/src/refusal.rs"]
 mod refusal;
 
-use answers::{Extension, Summary};
+use answers::*;
 pub use calls::*;
 use refusal::Refusal;

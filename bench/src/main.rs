@@ -1,5 +1,6 @@
 //! Times the verified calls and the peer's, or those of an earlier archive. A line for each call, input and length: their
 //! names and the nanoseconds of one call of both. An argument picks the calls whose names have it.
+#![cfg_attr(earlier, allow(dead_code))] // what only calls need that an earlier crate lacks, and parts of that crate
 #[cfg(earlier)]
 #[rustfmt::skip] // its files are there only where it is built
 mod earlier;
@@ -45,6 +46,7 @@ impl Case {
 struct Buffers {
     work: Vec<u16>,
     result: Vec<u16>,
+    breaks: Vec<u16>,
 }
 
 type Call = fn(&Case, &mut Buffers);
@@ -58,6 +60,10 @@ macro_rules! calls_of {
             }),
             ("`metsroeb_icfl`", |case, lent| {
                 black_box($of::icfl(&case.record, &mut lent.work, &mut lent.result)).ok();
+            }),
+            #[cfg(has = "icfl_with_breaks")]
+            ("`metsroeb_icfl_breaks`", |case, lent| {
+                black_box($of::icfl_with_breaks(&case.record, &mut lent.work, &mut lent.result, &mut lent.breaks)).ok();
             }),
             ("`metsroeb_cfl_in`, n result entries: one pass", |case, lent| {
                 black_box($of::cfl_in(&case.record, &mut lent.result)).ok();
@@ -85,8 +91,20 @@ macro_rules! calls_of {
     };
 }
 
-const VERIFIED: [(&str, Call); 9] = calls_of!(metsroeb);
-const OTHER: [(&str, Call); 9] = calls_of!(other);
+const VERIFIED: &[(&str, Call)] = &calls_of!(metsroeb);
+const OTHER: &[(&str, Call)] = &calls_of!(other);
+
+/// What is timed, by name: each verified call beside the other side's, and the verified cut with breaks beside the one without.
+fn pairs() -> Vec<(&'static str, [Call; 2])> {
+    let both = VERIFIED.iter().zip(OTHER).map(|(&(name, verified), &(_, other))| (name, [verified, other]));
+    let mut pairs: Vec<_> = both.collect();
+    if cfg!(not(earlier)) {
+        let verified = |wanted| VERIFIED.iter().find(|(name, _)| *name == wanted).unwrap().1;
+        let sides = ["`metsroeb_icfl_breaks`", "`metsroeb_icfl`"].map(verified);
+        pairs.push(("`metsroeb_icfl_breaks` over `metsroeb_icfl`, both verified", sides));
+    }
+    pairs
+}
 
 /// Nanoseconds of one call.
 fn batch(call: Call, (cases, lent): &mut (Vec<Case>, Buffers), repeats: usize) -> f64 {
@@ -109,7 +127,7 @@ fn median(times: &mut [f64]) -> f64 {
 fn measure(sides: [Call; 2], (_, records, make): Input) -> [(f64, f64); 4] {
     let mut benches = LENGTHS.map(|n| {
         let cases = (0..records).map(|k| Case::new(make(n, k))).collect::<Vec<_>>();
-        (cases, Buffers { work: vec![0; 3 * n], result: vec![0; n] })
+        (cases, Buffers { work: vec![0; 3 * n], result: vec![0; n], breaks: vec![0; 5 * n] })
     });
     let repeats = benches.each_mut().map(|b| {
         let once = batch(sides[0], b, 2).min(batch(sides[1], b, 2));
@@ -129,9 +147,9 @@ fn measure(sides: [Call; 2], (_, records, make): Input) -> [(f64, f64); 4] {
 fn main() {
     black_box(metsroeb_bench_pad as *const ());
     let wanted = std::env::args().nth(1).unwrap_or_default();
-    for ((name, verified), (_, other)) in VERIFIED.into_iter().zip(OTHER).filter(|((name, _), _)| name.contains(&wanted)) {
+    for (name, sides) in pairs().into_iter().filter(|(name, _)| name.contains(&wanted)) {
         for input in INPUTS {
-            for (n, (verified, other)) in LENGTHS.into_iter().zip(measure([verified, other], input)) {
+            for (n, (verified, other)) in LENGTHS.into_iter().zip(measure(sides, input)) {
                 println!("{name}\t{}\t{n}\t{verified:.2}\t{other:.2}", input.0);
             }
         }
