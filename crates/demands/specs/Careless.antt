@@ -34,6 +34,7 @@ abbrev cutter : Cut → Calls
 cutter cut = record {
   Test = library .Test;
   PieceCut = cut;
+  ReasonedCut = library .ReasonedCut;
   StrictCut = library .StrictCut;
   StartTable = library .StartTable;
   Comparing = library .Comparing;

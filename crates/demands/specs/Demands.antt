@@ -1,4 +1,4 @@
--- DEFINITIONS. The customer's three demands, stated once about seven calls. The library's calls are such seven, and so are the exported functions: that the
+-- DEFINITIONS. The customer's three demands, stated once about any such calls (Calls). The library's calls are such, and so are the exported functions: that the
 -- demands hold of both are the theorems library-demands and exported-demands (DemandsHold). Each field carries the customer's sentence. That every call ends,
 -- and without undefined behaviour, is what the proof of its function says.
 use mathlib.Core.Path.{_≡_}
@@ -11,8 +11,8 @@ use lib.Seq.{slice}
 use lib.IntN.{ℤ, pos, negsuc}
 use lib.Dec.{eqb}
 use Rattle.words.specs.Words.{mostLetters, _≪_, _⊑_, _<ₗ_, InverseLyndon, AntiLyndon}
-use Rattle.words.specs.Factorizations.{icfl, icflEnds, cflIn, cflInEnds, lyndonTable, joinFirst, failingLength, prefixLength, borderLength}
-use Rattle.words.specs.Statements.{BoundedExtension, CflInOf, Part, WholePieces, Compatible}
+use Rattle.words.specs.Factorizations.{icfl, icflEnds, icflBreaks, cflIn, cflInEnds, lyndonTable, joinFirst, failingLength, prefixLength, borderLength}
+use Rattle.words.specs.Statements.{BoundedExtension, BreaksOf, CflInOf, Part, WholePieces, Compatible}
 use Rattle.checks.specs.Lines.{Line, tried, decided}
 use Rattle.checks.specs.Answers.{numbered, countChecked}
 use Rattle.checks.specs.declared.Checked.{Checked}
@@ -20,7 +20,10 @@ use Rattle.checks.specs.declared.Checked.the-variants.{Passed, Refused}
 use Rattle.checks.specs.declared.Counted.{Counted}
 use Rattle.extension.specs.declared.Extension.{Extension}
 use Rattle.extension.specs.Extension.{testChecked, extensionLines, ExtensionFound}
+use Rattle.fates.specs.Entries.{entriesOf}
+use Rattle.icfl.specs.declared.CountedBreaks.{CountedBreaks}
 use Rattle.icfl.specs.Icfl.{icflLines, IcflDone}
+use Rattle.icfl.specs.IcflBreaks.{breaksLines, breaksChecked, BreaksDone}
 use Rattle.cfl.specs.CflIn.{cflInLines, CflInDone}
 use Rattle.table.specs.Table.{tableLines, Tabled}
 use Rattle.compare.specs.declared.suffixes.Comparison.{Comparison}
@@ -28,13 +31,14 @@ use Rattle.compare.specs.Compare.{signChecked, compareLines, Compared}
 use Rattle.reading.specs.Factor.{factorLines, FactorAt}
 use Rattle.summary.specs.declared.Summary.{Summary}
 use Rattle.summary.specs.Summary.{summaryLines, Summarized}
-use Rattle.exports.specs.Exports.{TestNumbers, IcflNumbers, CflInNumbers, TableNumbers, SignNumber, FactorNumbers}
+use Rattle.exports.specs.Exports.{TestNumbers, IcflNumbers, BreaksNumbers, CflInNumbers, TableNumbers, SignNumber, FactorNumbers}
 
--- ---- seven calls: which answers each may give, with which contents of the lent buffers afterwards
+-- ---- the calls: which answers each may give, with which contents of the lent buffers afterwards
 
 pub record Calls : Type 1 where
   pub Test : (w work : List ℕ) (r : Extension) (work′ : List ℕ) → Type 0
   pub PieceCut : (w work ends : List ℕ) (r : Counted) (work′ ends′ : List ℕ) → Type 0
+  pub ReasonedCut : (w work ends breaks : List ℕ) (r : CountedBreaks) (work′ ends′ breaks′ : List ℕ) → Type 0
   pub StrictCut : (w ends : List ℕ) (r : Counted) (ends′ : List ℕ) → Type 0
   pub StartTable : (w out : List ℕ) (r : Counted) (out′ : List ℕ) → Type 0
   pub Comparing : (w : List ℕ) (first end start other : ℕ) (r : Comparison) → Type 0
@@ -46,6 +50,7 @@ abbrev pub library : Calls
 library = record {
   Test = ExtensionFound;
   PieceCut = IcflDone;
+  ReasonedCut = BreaksDone;
   StrictCut = CflInDone;
   StartTable = Tabled;
   Comparing = Compared;
@@ -61,6 +66,9 @@ verdictBy number failing prefix border =
 abbrev pub countBy : (number count : ℕ) → Counted
 countBy number count = decided (numbered number) (Counted.Count count) Counted.Refused
 
+abbrev pub countsBy : (number factors breaks : ℕ) → CountedBreaks
+countsBy number factors breaks = decided (numbered number) (CountedBreaks.Counts factors breaks) CountedBreaks.Refused
+
 abbrev pub signBy : (number : ℕ) (sign : ℤ) → Comparison
 signBy number sign = decided (numbered number) (Comparison.Sign sign) Comparison.Refused
 
@@ -69,6 +77,7 @@ abbrev pub exported : Calls
 exported = record {
   Test = λ w work r work′. (e l p b : ℕ) × (r ≡ verdictBy e l p b) × TestNumbers w work e l p b work′;
   PieceCut = λ w work ends r work′ ends′. (e n : ℕ) × (r ≡ countBy e n) × IcflNumbers w work ends e n work′ ends′;
+  ReasonedCut = λ w work ends breaks r work′ ends′ breaks′. (e n k : ℕ) × (r ≡ countsBy e n k) × BreaksNumbers w work ends breaks e n k work′ ends′ breaks′;
   StrictCut = λ w ends r ends′. (e n : ℕ) × (r ≡ countBy e n) × CflInNumbers w ends e n ends′;
   StartTable = λ w out r out′. (e n : ℕ) × (r ≡ countBy e n) × TableNumbers w out e n out′;
   Comparing = λ w first end start other r. (e : ℕ) × (s : ℤ) × (r ≡ signBy e s) × SignNumber w first end start other e s;
@@ -102,6 +111,10 @@ pub record Demand1 (c : Calls) : Type 0 where
   pub pieceCut : (w work ends work′ ends′ : List ℕ) (r : Counted) → c .PieceCut w work ends r work′ ends′
       → Answers (1 ∷ 2 ∷ 3 ∷ 4 ∷ []) (icflLines w (length work) (length ends)) (countChecked r) × Untouched (countChecked r) ends ends′
       × UntouchedBut4 (3 * length w) (countChecked r) work work′
+  -- request 102: the same with breaks beside the ends
+  pub reasonedCut : (w work ends breaks work′ ends′ breaks′ : List ℕ) (r : CountedBreaks) → c .ReasonedCut w work ends breaks r work′ ends′ breaks′
+      → Answers (1 ∷ 2 ∷ 3 ∷ 4 ∷ []) (breaksLines w (length work) (length ends) (length breaks)) (breaksChecked r) × Untouched (breaksChecked r) ends ends′
+      × Untouched (breaksChecked r) breaks breaks′ × UntouchedBut4 (3 * length w) (breaksChecked r) work work′
   pub strictCut : (w ends ends′ : List ℕ) (r : Counted) → c .StrictCut w ends r ends′
       → Answers (1 ∷ 2 ∷ 4 ∷ []) (cflInLines w (length ends)) (countChecked r) × Untouched (countChecked r) ends ends′
   pub startTable : (w out out′ : List ℕ) (r : Counted) → c .StartTable w out r out′
@@ -119,6 +132,12 @@ pub record Gave (vs : List ℕ) (r : Counted) (buffer′ : List ℕ) : Type 0 wh
   pub count : r ≡ Counted.Count (length vs)
   pub entries : take (length vs) buffer′ ≡ vs
 
+-- the answer is both numbers, and both lists stand at their buffers' fronts
+pub record GaveBoth (w : List ℕ) (r : CountedBreaks) (ends′ breaks′ : List ℕ) : Type 0 where
+  pub counts : r ≡ CountedBreaks.Counts (length (icflEnds w)) (length (icflBreaks w))
+  pub ends : take (length (icflEnds w)) ends′ ≡ icflEnds w
+  pub breaks : take (5 * length (icflBreaks w)) breaks′ ≡ entriesOf (icflBreaks w)
+
 pub record Demand2 (c : Calls) (w : List ℕ) : Type 0 where
   -- "The pieces of a record of 1 to 4,096 bytes are those of the published recursive definition"
   pub pieces : (work ends work′ ends′ : List ℕ) (r : Counted) → c .PieceCut w work ends r work′ ends′ → countChecked r ≡ Passed → Gave (icflEnds w) r ends′
@@ -128,6 +147,10 @@ pub record Demand2 (c : Calls) (w : List ℕ) : Type 0 where
   pub extension : ¬ InverseLyndon w → BoundedExtension w (failingLength w) (prefixLength w) (borderLength w)
   pub falls : (work work′ : List ℕ) → c .Test w work Extension.InverseLyndon work′ → InverseLyndon w
   pub fails : (work work′ : List ℕ) (l p r : ℕ) → c .Test w work (Extension.Failing l p r) work′ → BoundedExtension w l p r
+  -- request 102: "gives beside the ends every break the cut considered, and both counts", which are breaks of that definition
+  pub reasons : (work ends breaks work′ ends′ breaks′ : List ℕ) (r : CountedBreaks) → c .ReasonedCut w work ends breaks r work′ ends′ breaks′
+      → breaksChecked r ≡ Passed → GaveBoth w r ends′ breaks′
+  pub considered : BreaksOf w (icflBreaks w)
   -- "the strict pieces are its Lyndon factors in the inverse byte order"
   pub strictPieces : (ends ends′ : List ℕ) (r : Counted) → c .StrictCut w ends r ends′ → countChecked r ≡ Passed → Gave (cflInEnds w) r ends′
   pub factors : CflInOf w (cflIn w)

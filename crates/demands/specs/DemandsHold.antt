@@ -4,7 +4,7 @@ use mathlib.Core.Path.{_≡_, refl, ap, sym, _∙_}
 use mathlib.Core.Bool.{Bool, true, false}
 use mathlib.Core.Logic.{_⊎_, inl, inr}
 use mathlib.Core.List.{List, List·Memᴰ}
-use Prim.Native.Nat.{ℕ, zero, suc, _≤_, _<_}
+use Prim.Native.Nat.{ℕ, zero, suc, _*_, _≤_, _<_}
 use native.Mathlib.Omega.{arith}
 use lib.ListN.{length, drop, replicate, length-drop, length-replicate}
 use lib.Seq.{take-at, drop-at}
@@ -12,10 +12,11 @@ use lib.IntN.{ℤ, pos, negsuc}
 use lib.Dec.{ltb}
 use borrow.Author.Tests.{ne-eqb}
 use Rattle.words.specs.Words.{mostLetters, InverseLyndon, sign}
-use Rattle.words.specs.Factorizations.{icfl, icflEnds, cflInEnds}
+use Rattle.words.specs.Factorizations.{icfl, icflEnds, icflBreaks, cflInEnds}
 use Rattle.words.specs.Statements.{BoundedExtension, WholePieces}
 use Rattle.words.specs.lyndon.AntiLyndonLaws.{longest-is, longest-positive}
 use Rattle.words.specs.icfl.BoundedExtension.{extension-is}
+use Rattle.words.specs.breaks.IcflBreaks.{icfl-breaks}
 use Rattle.words.specs.uniqueness.IcflUnfold.{icfl-whole, icfl-step}
 use Rattle.words.specs.cfl_in.CflInIs.{cfl-in-is}
 use Rattle.words.specs.cfl_in.CflInUnique.{cfl-in-unique}
@@ -33,12 +34,16 @@ use Rattle.checks.proofs.LineLaws.{not-both, said, everyNumber, among, first-li
 use Rattle.extension.specs.declared.Extension.{Extension}
 use Rattle.extension.specs.Extension.{extensionOf, testChecked, extensionLines, ExtensionFound}
 use Rattle.extension.proofs.VerdictLaws.{fails-told, holds-told, verdict-checked}
+use Rattle.fates.specs.Entries.{entriesOf}
+use Rattle.fates.proofs.EntryLaws.{length-entries}
+use Rattle.icfl.specs.declared.CountedBreaks.{CountedBreaks}
 use Rattle.icfl.specs.Icfl.{workAfter}
+use Rattle.icfl.specs.IcflBreaks.{breaksLines, breaksChecked, BreaksDone}
 use Rattle.compare.specs.declared.suffixes.Comparison.{Comparison}
 use Rattle.compare.specs.Compare.{signChecked, compareLines}
 use Rattle.compare.proofs.ComparisonLaws.{Within, within-passes}
 use Rattle.summary.specs.Summary.{summaryLines, summaryOf, emptySummary}
-use Rattle.demands.specs.Demands.{Calls, library, exported, Answers, Untouched, UntouchedBut4, Demand1, Gave, Demand2, Demand3, Runs, Demands}
+use Rattle.demands.specs.Demands.{Calls, library, exported, Answers, Untouched, UntouchedBut4, Demand1, Gave, GaveBoth, Demand2, Demand3, Runs, Demands}
 use Rattle.demands.specs.Meets.{Meets, Total, library-meets, library-total, exported-meets, exported-total}
 use Rattle.demands.specs.RunsExist.{runs-exist}
 
@@ -67,6 +72,13 @@ numbered-answers numbers lines z h p = answers numbers lines (ap numbered z ∙ 
 
 filled-says : {lines : List Line} {n : ℕ} {vs buffer buffer′ : List ℕ} {r : Counted} → Filled lines n vs buffer r buffer′ → countChecked r ≡ tried lines
 filled-says {lines} {n} f = ap countChecked (f .answer) ∙ said countChecked (Counted.Count n) (λ (i : ℕ). Counted.Refused i) refl (λ number. refl) (tried lines)
+
+breaks-say : {w work ends breaks work′ ends′ breaks′ : List ℕ} {r : CountedBreaks} → BreaksDone w work ends breaks r work′ ends′ breaks′
+    → breaksChecked r ≡ tried (breaksLines w (length work) (length ends) (length breaks))
+breaks-say {w} {work} {ends} {breaks} f =
+    let lines = breaksLines w (length work) (length ends) (length breaks) in
+    let result = CountedBreaks.Counts (length (icflEnds w)) (length (icflBreaks w)) in
+    ap breaksChecked (f .answer) ∙ said breaksChecked result (λ (i : ℕ). CountedBreaks.Refused i) refl (λ number. refl) (tried lines)
 
 -- a buffer that is changed only where no line is met
 untouched : {k : Checked} (lines : List Line) (buffer result : List ℕ) {buffer′ : List ℕ} → k ≡ tried lines
@@ -100,6 +112,10 @@ module _ (c : Calls) (m : Meets c) where
         let f = m .pieceCut w work ends r work′ ends′ h in
         let says = filled-says (f .filled) in
         (answers _ _ says refl refl, untouched _ _ _ says (f .filled .result), untouched-but-4 _ _ _ says (f .worked));
+    reasonedCut = λ w work ends breaks work′ ends′ breaks′ r h.
+        let f = m .reasonedCut w work ends breaks r work′ ends′ breaks′ h in
+        let says = breaks-say f in
+        (answers _ _ says refl refl, untouched _ _ _ says (f .ends-are), untouched _ _ _ says (f .breaks-are), untouched-but-4 _ _ _ says (f .worked));
     strictCut = λ w ends ends′ r h.
         let f = m .strictCut w ends r ends′ h in
         (answers _ _ (filled-says f) refl refl, untouched _ _ _ (filled-says f) (f .result));
@@ -128,6 +144,17 @@ gave {lines} {n} {vs} {buffer} z f e =
       entries = rw (rw none at (f .result)) (take-at vs (drop (length vs) buffer) (length vs) refl);
     }
 
+-- both lists at their buffers' fronts
+gave-both : (w work ends breaks work′ ends′ breaks′ : List ℕ) (r : CountedBreaks) → BreaksDone w work ends breaks r work′ ends′ breaks′
+    → breaksChecked r ≡ Passed → GaveBoth w r ends′ breaks′
+gave-both w work ends breaks work′ ends′ breaks′ r f e =
+    let none : tried (breaksLines w (length work) (length ends) (length breaks)) ≡ Passed = sym (breaks-say f) ∙ e in
+    record {
+      counts = rw none at (f .answer);
+      ends = rw (rw none at (f .ends-are)) (take-at (icflEnds w) (drop (length (icflEnds w)) ends) (length (icflEnds w)) refl);
+      breaks = rw (rw none at (f .breaks-are)) (take-at (entriesOf (icflBreaks w)) _ (5 * length (icflBreaks w)) (length-entries (icflBreaks w)));
+    }
+
 -- a test that gave a result answers the verdict
 verdict-is : (w work work′ : List ℕ) (r : Extension) → ExtensionFound w work r work′ → testChecked r ≡ Passed → r ≡ extensionOf w
 verdict-is w work work′ r f e =
@@ -150,6 +177,9 @@ module _ (c : Calls) (m : Meets c) (w : List ℕ) (s : 1 ≤ length w) where
     falls = λ work work′ h.
         holds-told w Extension.InverseLyndon (inl refl) (verdict-is w work work′ Extension.InverseLyndon (m .test w work Extension.InverseLyndon work′ h) refl);
     fails = λ work work′ l p r h. verdict-fails w work work′ l p r s (m .test w work (Extension.Failing l p r) work′ h);
+    reasons = λ work ends breaks work′ ends′ breaks′ r h.
+        gave-both w work ends breaks work′ ends′ breaks′ r (m .reasonedCut w work ends breaks r work′ ends′ breaks′ h);
+    considered = icfl-breaks w s;
     strictPieces = λ ends ends′ r h. gave refl (m .strictCut w ends r ends′ h);
     factors = cfl-in-is w;
     only = cfl-in-unique w;

@@ -11,7 +11,7 @@ use lib.IntN.{ℤ}
 use lib.Dec.{eqb, ltb}
 use borrow.Author.Tests.{ne-eqb}
 use Rattle.words.specs.Words.{InverseLyndon, isInverseLyndon, sign}
-use Rattle.words.specs.Factorizations.{failingLength, prefixLength, borderLength}
+use Rattle.words.specs.Factorizations.{failingLength, prefixLength, borderLength, icflEnds, icflBreaks}
 use Rattle.words.specs.orders.Decisions.{decides-false}
 use Rattle.words.specs.lyndon.WordTests.{inverse-lyndon-test}
 use Rattle.words.specs.icfl.Failing.{failing-is}
@@ -24,7 +24,9 @@ use Rattle.checks.proofs.LineLaws.{everyNumber, numbered-is}
 use Rattle.checks.proofs.RecordLaws.{accepted}
 use Rattle.extension.specs.declared.Extension.{Extension}
 use Rattle.extension.specs.Extension.{verdictAs, extensionOf, extensionLines, ExtensionFound}
+use Rattle.icfl.specs.declared.CountedBreaks.{CountedBreaks}
 use Rattle.icfl.specs.Icfl.{IcflDone}
+use Rattle.icfl.specs.IcflBreaks.{breaksLines, BreaksDone}
 use Rattle.cfl.specs.CflIn.{CflInDone}
 use Rattle.table.specs.Table.{Tabled}
 use Rattle.compare.specs.declared.suffixes.Comparison.{Comparison}
@@ -32,12 +34,14 @@ use Rattle.compare.specs.Compare.{compareLines, Compared}
 use Rattle.reading.specs.Factor.{factorLines, factorFrom, FactorAt}
 use Rattle.summary.specs.declared.Summary.{Summary}
 use Rattle.summary.specs.Summary.{Summarized}
-use Rattle.exports.specs.Exports.{ifFailing, TestNumbers, FilledNumbers, SignNumber, FactorNumbers}
-use Rattle.demands.specs.Demands.{Calls, library, exported, verdictBy, countBy, signBy}
+use Rattle.exports.specs.Exports.{ifFailing, TestNumbers, FilledNumbers, BreaksNumbers, SignNumber, FactorNumbers}
+use Rattle.demands.specs.Demands.{Calls, library, exported, verdictBy, countBy, countsBy, signBy}
 
 pub record Meets (c : Calls) : Type 0 where
   pub test : (w work : List ℕ) (r : Extension) (work′ : List ℕ) → c .Test w work r work′ → ExtensionFound w work r work′
   pub pieceCut : (w work ends : List ℕ) (r : Counted) (work′ ends′ : List ℕ) → c .PieceCut w work ends r work′ ends′ → IcflDone w work ends r work′ ends′
+  pub reasonedCut : (w work ends breaks : List ℕ) (r : CountedBreaks) (work′ ends′ breaks′ : List ℕ) → c .ReasonedCut w work ends breaks r work′ ends′ breaks′
+      → BreaksDone w work ends breaks r work′ ends′ breaks′
   pub strictCut : (w ends : List ℕ) (r : Counted) (ends′ : List ℕ) → c .StrictCut w ends r ends′ → CflInDone w ends r ends′
   pub startTable : (w out : List ℕ) (r : Counted) (out′ : List ℕ) → c .StartTable w out r out′ → Tabled w out r out′
   pub comparison : (w : List ℕ) (first end start other : ℕ) (r : Comparison) → c .Comparing w first end start other r → Compared w first end start other r
@@ -56,6 +60,7 @@ pub library-meets : Meets library
 library-meets = record {
   test = λ w work r work′ h. h;
   pieceCut = λ w work ends r work′ ends′ h. h;
+  reasonedCut = λ w work ends breaks r work′ ends′ breaks′ h. h;
   strictCut = λ w ends r ends′ h. h;
   startTable = λ w out r out′ h. h;
   comparison = λ w first end start other r h. h;
@@ -88,6 +93,19 @@ filled-by lines p {n} {count = count} f z = record {
       (λ h. ap (λ (t : ℕ). Counted.Count t) (rw h at (f .count-is)));
   result = f .result;
 }
+
+breaks-by : (w work ends breaks : List ℕ) {e n k : ℕ} {work′ ends′ breaks′ : List ℕ} {r : CountedBreaks}
+    → BreaksNumbers w work ends breaks e n k work′ ends′ breaks′ → r ≡ countsBy e n k → BreaksDone w work ends breaks r work′ ends′ breaks′
+breaks-by w work ends breaks {n = n} {k = k} f z =
+    let lines = breaksLines w (length work) (length ends) (length breaks) in
+    let result = CountedBreaks.Counts (length (icflEnds w)) (length (icflBreaks w)) in
+    record {
+      answer = z ∙ back lines refl result (CountedBreaks.Counts n k) (λ (i : ℕ). CountedBreaks.Refused i) (f .refusal)
+          (λ h. rw (rw h at (f .count-is), rw h at (f .breaks-count)));
+      ends-are = f .ends-are;
+      breaks-are = f .breaks-are;
+      worked = f .worked;
+    }
 
 -- L tells the verdict: it is 0 for an inverse Lyndon word alone
 verdict-by : (w : List ℕ) (l p r : ℕ) → 0 < length w
@@ -136,6 +154,7 @@ pub exported-meets : Meets exported
 exported-meets = record {
   test = λ w work r work′ h. test-by w work (h .5) (h .4);
   pieceCut = λ w work ends r work′ ends′ h. record { filled = filled-by _ refl (h .3 .filled) (h .2); worked = h .3 .worked };
+  reasonedCut = λ w work ends breaks r work′ ends′ breaks′ h. breaks-by w work ends breaks (h .4) (h .3);
   strictCut = λ w ends r ends′ h. filled-by _ refl (h .3) (h .2);
   startTable = λ w out r out′ h. filled-by _ refl (h .3) (h .2);
   comparison = λ w first end start other r h. sign-by w first end start other (h .3) (h .2);
