@@ -9,10 +9,8 @@ use types.Run.{OneOf}
 use denote.Enum.Declared.{tagOf}
 use Rattle.buffers.proofs.BufferLaws.{kept-past}
 use Rattle.buffers.proofs.PartLaws.{rest, rest-is}
-use Rattle.words.specs.Words.{InverseLyndon}
-use Rattle.words.specs.Factorizations.{icflBreaks, breaksFrom, prefixLength, borderLength}
-use Rattle.words.specs.declared.Break.{Break}
-use Rattle.words.specs.breaks.BreaksUnfold.{firstBreak, breaks-whole, breaks-step}
+use Rattle.words.specs.Factorizations.{firstBreak, breaksFrom, icflBreaks, prefixLength}
+use Rattle.words.specs.breaks.BreaksUnfold.{breaks-whole, breaks-step}
 use Rattle.extension.specs.declared.Extension.{Extension}
 use Rattle.extension.specs.Extension.{TestRoom, Verdict}
 use Rattle.extension.proofs.Extension.{the-type}

@@ -1,18 +1,17 @@
 -- The backward pass, over plain lists: from entry top up to entry n stand the ends of what follows the first k breaks.
 use mathlib.Core.Path.{_≡_, refl, ap, sym, _∙_}
-use mathlib.Core.List.{List, [], _∷_, head-eq-of-cons-eq}
+use mathlib.Core.List.{List, [], _∷_}
 use Prim.Native.Nat.{ℕ, suc, _+_, _-_, _*_, _≤_, _<_}
 use native.Mathlib.Omega.{arith}
 use lib.ListN.{length, take, drop, getD, set, length-set, drop-of-length-le}
 use lib.Seq.{slice, slice-cons, slice-empty, drop-set-lt, getD-set-same}
 use Rattle.buffers.proofs.PartLaws.{part-is}
 use Rattle.buffers.proofs.BufferLaws.{kept-past}
-use Rattle.words.specs.Factorizations.{icflEnds, icflBreaks}
+use Rattle.words.specs.Factorizations.{icflBreaks}
 use Rattle.words.specs.Statements.{keptPlaces}
 use Rattle.words.specs.declared.Fate.{Fate}
 use Rattle.words.specs.breaks.BreakSteps.{Ended, kept, joined, keptEnds, BreakAt}
 use Rattle.words.specs.breaks.IcflBreaks.{icfl-breaks}
-use Rattle.breaks.specs.declared.Found.{Found}
 use Rattle.breaks.specs.Cutting.{CutRoom, Noted, BreaksFound, EndsGathered, CutFound}
 use Rattle.breaks.proofs.NoteLaws.{noted-kept, few-noted, noted-break, note-at}
 

@@ -4,11 +4,11 @@ use mathlib.Core.Path.{_≡_, refl, ap, sym, _∙_}
 use mathlib.Core.List.{List, [], _∷_}
 use Prim.Native.Nat.{ℕ, zero, suc, _+_, _*_, _<_}
 use native.Mathlib.Omega.{arith}
-use lib.ListN.{length, take, drop, getD}
+use lib.ListN.{length, drop, getD}
 use lib.Seq.{getD-take, getD-drop}
 use Rattle.words.specs.Factorizations.{icflBreaks}
 use Rattle.words.specs.declared.Break.{Break}
-use Rattle.words.specs.breaks.BreakSteps.{Steps, breaks-steps, BreakAt, break-at}
+use Rattle.words.specs.breaks.BreakSteps.{breaks-steps, BreakAt, break-at}
 use Rattle.words.specs.breaks.IcflBreaks.{icfl-breaks}
 use Rattle.breaks.specs.Cutting.{notesOf, Noted}
 

@@ -21,7 +21,7 @@ use Rattle.checks.specs.declared.Counted.{Counted}
 use Rattle.extension.specs.declared.Extension.{Extension}
 use Rattle.extension.specs.Extension.{testChecked, extensionLines, ExtensionFound}
 use Rattle.fates.specs.Entries.{entriesOf}
-use Rattle.icfl.specs.declared.CountedBreaks.{CountedBreaks}
+use Rattle.icfl.specs.declared.with_breaks.CountedBreaks.{CountedBreaks}
 use Rattle.icfl.specs.Icfl.{icflLines, IcflDone}
 use Rattle.icfl.specs.IcflBreaks.{breaksLines, breaksChecked, BreaksDone}
 use Rattle.cfl.specs.CflIn.{cflInLines, CflInDone}

@@ -36,7 +36,7 @@ use Rattle.extension.specs.Extension.{extensionOf, testChecked, extensionLines,
 use Rattle.extension.proofs.VerdictLaws.{fails-told, holds-told, verdict-checked}
 use Rattle.fates.specs.Entries.{entriesOf}
 use Rattle.fates.proofs.EntryLaws.{length-entries}
-use Rattle.icfl.specs.declared.CountedBreaks.{CountedBreaks}
+use Rattle.icfl.specs.declared.with_breaks.CountedBreaks.{CountedBreaks}
 use Rattle.icfl.specs.Icfl.{workAfter}
 use Rattle.icfl.specs.IcflBreaks.{breaksLines, breaksChecked, BreaksDone}
 use Rattle.compare.specs.declared.suffixes.Comparison.{Comparison}

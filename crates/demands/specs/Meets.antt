@@ -24,7 +24,7 @@ use Rattle.checks.proofs.LineLaws.{everyNumber, numbered-is}
 use Rattle.checks.proofs.RecordLaws.{accepted}
 use Rattle.extension.specs.declared.Extension.{Extension}
 use Rattle.extension.specs.Extension.{verdictAs, extensionOf, extensionLines, ExtensionFound}
-use Rattle.icfl.specs.declared.CountedBreaks.{CountedBreaks}
+use Rattle.icfl.specs.declared.with_breaks.CountedBreaks.{CountedBreaks}
 use Rattle.icfl.specs.Icfl.{IcflDone}
 use Rattle.icfl.specs.IcflBreaks.{breaksLines, BreaksDone}
 use Rattle.cfl.specs.CflIn.{CflInDone}

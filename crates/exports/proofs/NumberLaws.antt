@@ -29,7 +29,7 @@ use Rattle.extension.specs.Extension.{extensionOf, testChecked, extensionLines,
 use Rattle.extension.proofs.VerdictLaws.{fails-told, verdict-read, verdict-checked}
 use Rattle.icfl.specs.Icfl.{IcflDone}
 use Rattle.icfl.specs.IcflBreaks.{breaksLines, breaksChecked, BreaksDone}
-use Rattle.icfl.specs.declared.CountedBreaks.{CountedBreaks}
+use Rattle.icfl.specs.declared.with_breaks.CountedBreaks.{CountedBreaks}
 use Rattle.cfl.specs.CflIn.{CflInDone}
 use Rattle.table.specs.Table.{Tabled}
 use Rattle.compare.specs.declared.suffixes.Comparison.{Comparison}

@@ -1,13 +1,13 @@
 -- The first of the breaks that are left, by the first of the ends that are left: what break_of makes is it (break-is), and the ends after it (kept-ends-on,
 -- joined-ends-on).
-use mathlib.Core.Path.{_≡_, refl, ap, sym, _∙_}
+use mathlib.Core.Path.{_≡_, refl, ap, sym}
 use mathlib.Core.List.{List, _∷_}
-use Prim.Native.Nat.{ℕ, _+_, _-_, _≤_, _<_}
+use Prim.Native.Nat.{ℕ, _+_, _-_, _≤_}
 use native.Mathlib.Omega.{arith}
 use borrow.Author.Tests.{lt-ltb, le-ltb}
-use lib.ListN.{length, getD}
+use lib.ListN.{getD}
 use Rattle.words.specs.declared.Fate.{Fate}
-use Rattle.words.specs.declared.Fate.the-variants.{Kept, Joined}
+use Rattle.words.specs.declared.Fate.the-variants.{Joined}
 use Rattle.words.specs.declared.Break.{Break}
 use Rattle.words.specs.breaks.BreakSteps.{Ended, kept, joined, keptEnds, FirstOf}
 use Rattle.fates.specs.Fates.{Near, fateBy, breakBy}

@@ -2,18 +2,17 @@
 -- from entry next on stand the ends that are left.
 use mathlib.Core.Path.{_≡_, refl, ap, sym, _∙_}
 use mathlib.Core.Logic.{_⊎_, inl, inr}
-use mathlib.Core.List.{List, [], _∷_, _++_, append-assoc, append-nil, map, flatten, tail-eq-of-cons-eq}
+use mathlib.Core.List.{List, [], _∷_, _++_, append-assoc, append-nil, flatten, tail-eq-of-cons-eq}
 use Prim.Native.Nat.{ℕ, suc, _+_, _-_, _*_, _≤_, _<_}
 use native.Mathlib.Omega.{arith}
-use lib.ListN.{length, take, drop, getD, length-append, length-drop, take-append-drop, drop-of-length-le}
-use lib.Seq.{sets, sets-eq, length-sets, slice, slice-cons, length-slice, take-at, drop-at, length-take-le, drop-drop}
+use lib.ListN.{length, take, drop, getD, length-append, take-append-drop, drop-of-length-le}
+use lib.Seq.{sets, sets-eq, length-sets, slice, slice-cons, length-slice, take-at, drop-at, length-take-le}
 use Rattle.buffers.specs.Buffers.{written}
 use Rattle.buffers.proofs.BufferLaws.{kept-past}
-use Rattle.words.specs.Factorizations.{icflEnds, icflBreaks}
+use Rattle.words.specs.Factorizations.{icflBreaks}
 use Rattle.words.specs.declared.Break.{Break}
 use Rattle.words.specs.breaks.BreakSteps.{Steps, breaks-steps, steps-first, FirstOf, BreakAt, keptEnds}
 use Rattle.words.specs.breaks.IcflBreaks.{icfl-breaks}
-use Rattle.breaks.specs.Cutting.{CutRoom, Noted}
 use Rattle.breaks.specs.declared.Found.{Found}
 use Rattle.breaks.proofs.NoteLaws.{few-noted, noted-break, note-at}
 use Rattle.fates.specs.Entries.{breakEntries, entriesOf}

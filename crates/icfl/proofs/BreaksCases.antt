@@ -1,9 +1,8 @@
 -- The promise of the piece cut with its breaks in each of its cases: refused before its work (breaks-unadmitted), by either 4 (breaks-refused), or done
 -- (breaks-written).
-use mathlib.Core.Path.{_≡_, refl, ap, sym, _∙_}
+use mathlib.Core.Path.{_≡_, refl, sym}
 use mathlib.Core.List.{List, [], _∷_}
 use Prim.Native.Nat.{ℕ, _-_, _*_, _≤_}
-use native.Mathlib.Omega.{arith}
 use borrow.Author.Tests.{ltb-false}
 use lib.ListN.{length}
 use Rattle.words.specs.Factorizations.{icflEnds, icflBreaks}
@@ -19,7 +18,7 @@ use Rattle.breaks.specs.Cutting.{CutFound}
 use Rattle.fates.specs.Entries.{entriesOf}
 use Rattle.icfl.specs.Icfl.{icflAdmission}
 use Rattle.icfl.specs.IcflBreaks.{breaksLines, BreaksDone}
-use Rattle.icfl.specs.declared.CountedBreaks.{CountedBreaks}
+use Rattle.icfl.specs.declared.with_breaks.CountedBreaks.{CountedBreaks}
 use Rattle.icfl.proofs.IcflCases.{ends-count, ends-part, refused-worked, cut-worked}
 
 -- the two lines with number 4, by entries needed

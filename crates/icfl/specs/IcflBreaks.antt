@@ -9,8 +9,8 @@ use Rattle.checks.specs.Lines.{Line, _unless_then_, resultLine}
 use Rattle.checks.specs.declared.Checked.{Checked}
 use Rattle.fates.specs.Entries.{entriesOf}
 use Rattle.icfl.specs.Icfl.{icflLines, workAfter}
-use Rattle.icfl.specs.declared.CountedBreaks.{CountedBreaks}
-use Rattle.icfl.specs.declared.CountedBreaks.the-variants.{Counts, Refused}
+use Rattle.icfl.specs.declared.with_breaks.CountedBreaks.{CountedBreaks}
+use Rattle.icfl.specs.declared.with_breaks.CountedBreaks.the-variants.{Counts, Refused}
 
 -- the piece cut's lines, and "A short buffer for them is met by refusal 4, once the ends have been found to fit."
 abbrev pub breaksLines : List ℕ → (work ends breaks : ℕ) → List Line

@@ -62,19 +62,23 @@ unfoldable pub fateOf : ℕ → ℕ → ℕ → List (List ℕ) → Fate
 fateOf a b r [] = Kept a b
 fateOf a b r (m ∷ ms) = elim (leb (length m) r) [ true ↦ Joined (r - length m) | false ↦ Kept a b ]
 
--- the breaks of a word that begins at place i (request 102): "every break the cut considered ..; the breaks run from left to right: the place where p ends,
--- the place where that step began, and |r|". Step, then the rest, as icflWithin.
+-- the break of the first step of w, which begins at place i: "the place where p ends, the place where that step began, and |r|", and its fate; a is the letter
+-- after the first r of r a u r b, b the last
+abbrev pub firstBreak : ℕ → List ℕ → Break
+firstBreak i w =
+    let p : ℕ = prefixLength w in
+    let r : ℕ = borderLength w in
+    record { place = i + p; begun = i; border = r; fate = fateOf (getD w r 0) (getD w (p + r) 0) r (icfl (drop p w)) }
+
+-- breaks of a word that begins at place i (request 102): "every break the cut considered ..; the breaks run from left to right". Step, then the rest, as
+-- icflWithin.
 unfoldable pub breaksWithin : ℕ → ℕ → List ℕ → List Break
 unfolding isInverseLyndon prefixLength borderLength icfl fateOf
 breaksWithin zero i w = []
 breaksWithin (suc k) i [] = []
 breaksWithin (suc k) i (a ∷ w) = elim (isInverseLyndon (a ∷ w)) [
   | true ↦ []
-  | false ↦
-      let p : ℕ = prefixLength (a ∷ w) in
-      let r : ℕ = borderLength (a ∷ w) in
-      let fate : Fate = fateOf (getD (a ∷ w) r 0) (getD (a ∷ w) (p + r) 0) r (icfl (drop p (a ∷ w))) in
-      record { place = i + p; begun = i; border = r; fate = fate } ∷ breaksWithin k (i + p) (drop p (a ∷ w))
+  | false ↦ firstBreak i (a ∷ w) ∷ breaksWithin k (i + prefixLength (a ∷ w)) (drop (prefixLength (a ∷ w)) (a ∷ w))
 ]
 
 unfoldable pub breaksFrom : ℕ → List ℕ → List Break

@@ -1,7 +1,6 @@
 -- An end past the place: joined; the place itself: kept.
 use borrow.Author.Needs.{needs}
 use borrow.Author.Tests.{lt-ltb, le-ltb}
-use native.Mathlib.Omega.{arith}
 use Rattle.fates.proofs.break_of.Statement.{statement}
 use Rattle.fates.proofs.break_of.Tie as tie
 

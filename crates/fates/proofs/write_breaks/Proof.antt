@@ -1,11 +1,10 @@
 -- Each turn makes one break of its note and of the first end that is left, and writes it.
-use borrow.Author.Needs.{needs}
 use mathlib.Core.Logic.{⊎-map}
 use Prim.Native.Nat.{_+_, _-_, _*_, _≤_, _<_}
 use native.Mathlib.Omega.{arith}
 use lib.ListN.{length}
 use Rattle.words.specs.Words.{mostLetters}
-use Rattle.fates.proofs.Writing.{Writing, write-starts, few, work-inside, near-at, room-at, write-on, write-ends}
+use Rattle.fates.proofs.Writing.{Writing, write-starts, few, near-at, room-at, write-on, write-ends}
 use Rattle.fates.proofs.write_breaks.Statement.{statement}
 use Rattle.fates.proofs.write_breaks.Tie as tie
 

@@ -50,8 +50,8 @@ returns c = admission-refused _ _ _ (c .before .before .before .admit .ensures) 
 find-ends-requires : tie.Need-find-ends-requires
 find-ends-requires c κs = room-at (c .before)
 
-sub-check-result : tie.Need-sub-check-result
-sub-check-result c = search needs
+sub-count : tie.Need-sub-count
+sub-count c = search needs
 
 check-result-requires : tie.Need-check-result-requires
 check-result-requires c κs = search needs
@@ -108,9 +108,6 @@ mul-clear-2 c = omega (arith, inside-at (c .before .before .before .before .befo
 clear-requires-2 : tie.Need-clear-requires-2
 clear-requires-2 c κs = omega (arith, inside-at (c .before .before .before .before .before .before .before .before .before .before .before .before))
 
-sub-t9 : tie.Need-sub-t9
-sub-t9 c = search needs
-
 same-length-2 : tie.Need-same-length-2
 same-length-2 c = search needs
 
@@ -128,6 +125,6 @@ returns-3 c =
 pub icfl-spec : {M : Type 1} → statement M
 icfl-spec =
     tie.close
-    (tie.spec admit-requires enum-told enum-told-2 number-requires returns find-ends-requires sub-check-result check-result-requires
+    (tie.spec admit-requires enum-told enum-told-2 number-requires returns find-ends-requires sub-count check-result-requires
     enum-told-3 enum-told-4 mul-clear clear-requires number-requires-2 same-length returns-2 mul-copy sub-copy part-copy-start part-copy-end
-    copy-requires mul-clear-2 clear-requires-2 sub-t9 same-length-2 same-length-3 returns-3)
+    copy-requires mul-clear-2 clear-requires-2 same-length-2 same-length-3 returns-3)

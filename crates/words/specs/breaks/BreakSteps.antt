@@ -1,16 +1,14 @@
 -- The breaks as a walk over the word: Steps w i bs says that bs are the breaks of what follows place i. Steps are breaksFrom (breaks-steps), each makes the ends
 -- of the word from those of the rest (step-ended), and so the kept places and the word's end are the ends (steps-ends).
-use mathlib.Core.Path.{_≡_, refl, ap, sym, subst, _∙_}
+use mathlib.Core.Path.{_≡_, refl, ap, _∙_}
 use mathlib.Core.Bool.{Bool, true, false}
 use mathlib.Core.List.{List, [], _∷_, _++_, flatten}
 use Prim.Native.Nat.{ℕ, zero, suc, _+_, _-_, _≤_, _<_}
 use native.Mathlib.Omega.{arith}
-use native.Mathlib.Nat.{le-refl}
 use lib.ListN.{length, take, drop, getD, length-append, length-drop}
 use lib.Seq.{length-take-le, drop-drop, getD-drop}
-use lib.Dec.{leb}
 use Rattle.words.specs.Words.{InverseLyndon}
-use Rattle.words.specs.Factorizations.{icfl, joinFirst, fateOf, breaksFrom, prefixLength, borderLength, endsFrom}
+use Rattle.words.specs.Factorizations.{icfl, joinFirst, fateOf, firstBreak, breaksFrom, prefixLength, borderLength, endsFrom}
 use Rattle.words.specs.Statements.{placeIfKept, keptPlaces, DominatedBy, Linked, more}
 use Rattle.words.specs.declared.Fate.{Fate}
 use Rattle.words.specs.declared.Fate.the-variants.{Kept, Joined}
@@ -22,7 +20,7 @@ use Rattle.words.specs.icfl.IcflFactors.{prefix-inside, prefix-positive}
 use Rattle.words.specs.icfl.IcflConcat.{icfl-concat}
 use Rattle.words.specs.icfl.IcflDominated.{icfl-dominated}
 use Rattle.words.specs.uniqueness.IcflUnfold.{icfl-whole, icfl-step}
-use Rattle.words.specs.breaks.BreaksUnfold.{firstFate, firstBreak, breaks-whole, breaks-step}
+use Rattle.words.specs.breaks.BreaksUnfold.{firstFate, breaks-whole, breaks-step}
 
 -- ---- one step: the ends es of the word, by the ends es′ of what follows the place, and the fate with them
 

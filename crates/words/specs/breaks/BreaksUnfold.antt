@@ -6,9 +6,9 @@ use mathlib.Core.List.{List, [], _∷_}
 use Prim.Native.Nat.{ℕ, zero, suc, _+_, _≤_, _<_}
 use native.Mathlib.Omega.{arith}
 use native.Mathlib.Nat.{le-refl}
-use lib.ListN.{length, drop, getD, length-drop}
+use lib.ListN.{length, drop, length-drop}
 use Rattle.words.specs.Words.{InverseLyndon}
-use Rattle.words.specs.Factorizations.{icfl, fateOf, breaksWithin, breaksFrom, prefixLength, borderLength}
+use Rattle.words.specs.Factorizations.{firstBreak, breaksWithin, breaksFrom, prefixLength}
 use Rattle.words.specs.declared.Fate.{Fate}
 use Rattle.words.specs.declared.Break.{Break}
 use Rattle.words.specs.orders.Decisions.{Decides, holds, fails}
@@ -16,15 +16,8 @@ use Rattle.words.specs.lyndon.WordTests.{inverse-lyndon-test}
 use Rattle.words.specs.icfl.BorderLength.{step-is}
 use Rattle.words.specs.icfl.IcflFactors.{prefix-positive}
 
--- the fate of the first step of w, and its break, where w begins at place i
 abbrev pub firstFate : List ℕ → Fate
-firstFate w =
-    let p : ℕ = prefixLength w in
-    let r : ℕ = borderLength w in
-    fateOf (getD w r 0) (getD w (p + r) 0) r (icfl (drop p w))
-
-abbrev pub firstBreak : ℕ → List ℕ → Break
-firstBreak i w = record { place = i + prefixLength w; begun = i; border = borderLength w; fate = firstFate w }
+firstFate w = firstBreak 0 w .fate
 
 -- what breaksWithin gives for a nonempty word, by the test's outcome
 within-whole : (k i : ℕ) (w : List ℕ) → InverseLyndon w → breaksWithin k i w ≡ []

@@ -1,13 +1,13 @@
 -- THEOREM icfl-breaks. The breaks of a nonempty word are as request 102 describes them: BreaksOf w (icflBreaks w).
 use mathlib.Core.Path.{_≡_, refl, ap, sym, _∙_}
 use mathlib.Core.Logic.{_⊎_, inl, inr}
-use mathlib.Core.List.{List, [], _∷_, _++_, List·Memᴰ, List·Memᴰ·head, List·Memᴰ·tail, List·Memᴰ·cases-cons, List·Memᴰ·not-nil}
+use mathlib.Core.List.{List, [], _∷_, List·Memᴰ, List·Memᴰ·head, List·Memᴰ·tail, List·Memᴰ·cases-cons, List·Memᴰ·not-nil}
 use Prim.Native.Nat.{ℕ, suc, _+_, _-_, _≤_, _<_}
 use native.Mathlib.Omega.{arith}
 use lib.ListN.{length, drop, getD, length-drop}
 use lib.Seq.{drop-drop, getD-drop}
 use Rattle.words.specs.Words.{InverseLyndon}
-use Rattle.words.specs.Factorizations.{icfl, icflEnds, icflBreaks, breaksFrom, failingLength, prefixLength, borderLength, endsFrom}
+use Rattle.words.specs.Factorizations.{icfl, icflEnds, firstBreak, icflBreaks, failingLength, prefixLength, borderLength, endsFrom}
 use Rattle.words.specs.Statements.{Chained, end, next, NextEnd, JoinedTo, BoundedExtension, BreaksOf}
 use Rattle.words.specs.declared.Fate.{Fate}
 use Rattle.words.specs.declared.Fate.the-variants.{Kept, Joined}
@@ -15,7 +15,6 @@ use Rattle.words.specs.declared.Break.{Break}
 use Rattle.words.specs.icfl.Failing.{failing-is, failing-unique}
 use Rattle.words.specs.icfl.BorderLength.{least-border-is, step-is}
 use Rattle.words.specs.icfl.BoundedExtension.{extension-is}
-use Rattle.words.specs.breaks.BreaksUnfold.{firstBreak}
 use Rattle.words.specs.breaks.BreakSteps.{
   Ended,
   kept,

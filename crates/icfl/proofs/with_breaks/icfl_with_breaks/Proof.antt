@@ -13,8 +13,8 @@ use Rattle.breaks.proofs.NoteLaws.{few-noted}
 use Rattle.icfl.specs.Icfl.{icflAdmission}
 use Rattle.icfl.proofs.IcflCases.{cut-room}
 use Rattle.icfl.proofs.BreaksCases.{roomLines, rooms, breaks-unadmitted, breaks-refused, breaks-written}
-use Rattle.icfl.proofs.icfl_with_breaks.Statement.{statement}
-use Rattle.icfl.proofs.icfl_with_breaks.Tie as tie
+use Rattle.icfl.proofs.with_breaks.icfl_with_breaks.Statement.{statement}
+use Rattle.icfl.proofs.with_breaks.icfl_with_breaks.Tie as tie
 
 -- past the admission
 admitted-at : (c : tie.After-enum-told) → (let start = c .before .before .before .before .before .before .before in
@@ -69,8 +69,8 @@ returns c = breaks-unadmitted _ _ _ _ (c .before .before .before .admit .ensures
 find-ends-requires : tie.Need-find-ends-requires
 find-ends-requires c κs = room-at (c .before)
 
-sub-check-result : tie.Need-sub-check-result
-sub-check-result c = search needs
+sub-factors : tie.Need-sub-factors
+sub-factors c = search needs
 
 check-result-requires : tie.Need-check-result-requires
 check-result-requires c κs = search needs
@@ -146,9 +146,6 @@ mul-clear-2 c = omega (arith, inside-at (c .before .before .before .before .befo
 clear-requires-2 : tie.Need-clear-requires-2
 clear-requires-2 c κs = omega (arith, inside-at (c .before .before .before .before .before .before .before .before .before .before .before .before .before .before .before .before .before .before .before))
 
-sub-t11 : tie.Need-sub-t11
-sub-t11 c = search needs
-
 same-length-2 : tie.Need-same-length-2
 same-length-2 c = search needs
 
@@ -170,7 +167,7 @@ returns-3 c =
 pub icfl-with-breaks-spec : {M : Type 1} → statement M
 icfl-with-breaks-spec =
     tie.close
-    (tie.spec admit-requires enum-told enum-told-2 number-requires returns find-ends-requires sub-check-result check-result-requires
+    (tie.spec admit-requires enum-told enum-told-2 number-requires returns find-ends-requires sub-factors check-result-requires
     mul-check-result check-result-requires-2 then-requires enum-told-3 enum-told-4 mul-clear clear-requires number-requires-2 same-length
-    returns-2 mul-copy sub-copy part-copy-start part-copy-end copy-requires write-breaks-requires mul-clear-2 clear-requires-2 sub-t11
+    returns-2 mul-copy sub-copy part-copy-start part-copy-end copy-requires write-breaks-requires mul-clear-2 clear-requires-2
     same-length-2 same-length-3 same-length-4 returns-3)

@@ -1,0 +1,45 @@
+//! The piece cut with its breaks beside it: why each factor ends where it does.
+use super::admit;
+use checks::Checked;
+ghost use Rattle.icfl.specs.IcflBreaks.{BreaksDone};
+
+/// What the piece cut with its breaks answers: the number of factors and that of breaks, or the number of the refusal.
+pub enum CountedBreaks {
+    Counts { factors: usize, breaks: usize },
+    Refused(u8),
+}
+
+/// The piece cut with its reasons: writes the ends as the piece cut does, and the breaks from left to right, five entries each: the place where p ends, the place
+/// where that step began, |r|; then the two letters for a kept one, 256 and what the joined factor lacks of |r| for a joined one. Refusals 1, 2, 3, 4 for the
+/// ends, 4 for the breaks; either 4 leaves both result buffers as they were. The work buffer is left as by the piece cut.
+pub fn icfl_with_breaks(
+    word: &[u8],
+    work: &mut [u16],
+    ends: &mut [u16],
+    breaks: &mut [u16],
+) -> CountedBreaks
+    ensures { λ r. ⌜ BreaksDone (now (word .entry)) (now (work .entry)) (now (ends .entry)) (now (breaks .entry)) r (now (work .exit)) (now (ends .exit)) (now (breaks .exit)) ⌝ }
+{
+    let admitted = admit(word, work.len());
+    let Checked::Passed = admitted else {
+        return CountedBreaks::Refused(admitted.number());
+    };
+    let n = word.len();
+    let found = breaks::find_ends(word, work);
+    let first = found.first;
+    let factors = n - first;
+    let count = found.breaks;
+    let ends_fit = checks::check_result(ends.len(), factors);
+    let room = ends_fit.then(checks::check_result(breaks.len(), 5 * count));
+    let Checked::Passed = room else {
+        buffers::clear(work, 3 * n);
+        return CountedBreaks::Refused(room.number());
+    };
+    buffers::copy(&work[first..n], ends);
+    fates::write_breaks(word, work, found, breaks);
+    buffers::clear(work, 3 * n);
+    CountedBreaks::Counts {
+        factors,
+        breaks: count,
+    }
+}
