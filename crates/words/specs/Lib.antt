@@ -16,11 +16,13 @@
 --     failingLength               L                           Lemma 4.8            length of the shortest failing prefix
 --     borderLength, prefixLength  |r|, |p|                    Lemma 4.7            the bounded right extension
 --     icfl, icflEnds              piece cut                   Definition 4.3       canonical inverse Lyndon factorization
+--     icflBreaks, breaksFrom      request 102                                      every step's break, with what became of it
 --     cflIn, cflInEnds            strict cut                  section 7.1          Lyndon factorization in ≺
 --     lyndonTable                 start table                                      longest anti-Lyndon word at each place
 --   Statements
 --     CflInOf                     "the only division .."      Theorem 2.1          anti-Lyndon words, none before the next one in ≺
 --     BoundedExtension            L, |p|, |r|                 Definition 4.2       the sentences that fix them, a field each
+--     BreaksOf                    request 102                                      what is said of the breaks, a field each
 --     DominatedBy                                                                  every nonempty suffix of one is ≪ the other
 --     BelowByBorders              request 109                                      the same said by borders
 --     Demand3                     demand 3                    Corollary 7.2, 7.13  the demand's sentences, a field each
@@ -30,6 +32,7 @@
 --   lyndon       inverse Lyndon and anti-Lyndon words; suffixes of a product
 --   icfl         the factorization into inverse Lyndon words: its factors and one step
 --   uniqueness   it is the only one of its kind
+--   breaks       the breaks of the factorization: its recursion step by step, and what is said of them
 --   cfl_in       the factorization into anti-Lyndon words
 --   places       lists of words by their ends; demand 3
 --   scan         what the loops of the cuts and of the test know
@@ -43,8 +46,8 @@ pub mod orders
 pub mod lyndon
 pub mod icfl
 pub mod uniqueness
+pub mod breaks
 pub mod cfl_in
 pub mod places
-pub mod breaks
 pub mod scan
 pub mod table
