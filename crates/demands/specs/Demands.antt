@@ -12,6 +12,7 @@ use lib.IntN.{ℤ, pos, negsuc}
 use lib.Dec.{eqb}
 use Rattle.words.specs.Words.{mostLetters, _≪_, _⊑_, _<ₗ_, InverseLyndon, AntiLyndon}
 use Rattle.words.specs.Factorizations.{icfl, icflEnds, icflBreaks, cflIn, cflInEnds, lyndonTable, joinFirst, failingLength, prefixLength, borderLength}
+use Rattle.words.specs.declared.Break.{Break}
 use Rattle.words.specs.Statements.{BoundedExtension, BreaksOf, CflInOf, Part, WholePieces, Compatible}
 use Rattle.checks.specs.Lines.{Line, tried, decided}
 use Rattle.checks.specs.Answers.{numbered, countChecked}
@@ -147,10 +148,11 @@ pub record Demand2 (c : Calls) (w : List ℕ) : Type 0 where
   pub extension : ¬ InverseLyndon w → BoundedExtension w (failingLength w) (prefixLength w) (borderLength w)
   pub falls : (work work′ : List ℕ) → c .Test w work Extension.InverseLyndon work′ → InverseLyndon w
   pub fails : (work work′ : List ℕ) (l p r : ℕ) → c .Test w work (Extension.Failing l p r) work′ → BoundedExtension w l p r
-  -- request 102: "gives beside the ends every break the cut considered, and both counts", which are breaks of that definition
+  -- request 102: "gives beside the ends every break the cut considered, and both counts"; they are as it describes them, and no others are
   pub reasons : (work ends breaks work′ ends′ breaks′ : List ℕ) (r : CountedBreaks) → c .ReasonedCut w work ends breaks r work′ ends′ breaks′
       → breaksChecked r ≡ Passed → GaveBoth w r ends′ breaks′
   pub considered : BreaksOf w (icflBreaks w)
+  pub noOthers : (bs : List Break) → BreaksOf w bs → bs ≡ icflBreaks w
   -- "the strict pieces are its Lyndon factors in the inverse byte order"
   pub strictPieces : (ends ends′ : List ℕ) (r : Counted) → c .StrictCut w ends r ends′ → countChecked r ≡ Passed → Gave (cflInEnds w) r ends′
   pub factors : CflInOf w (cflIn w)

@@ -17,6 +17,7 @@ use Rattle.words.specs.Statements.{BoundedExtension, WholePieces}
 use Rattle.words.specs.lyndon.AntiLyndonLaws.{longest-is, longest-positive}
 use Rattle.words.specs.icfl.BoundedExtension.{extension-is}
 use Rattle.words.specs.breaks.IcflBreaks.{icfl-breaks}
+use Rattle.words.specs.breaks.BreaksOnly.{breaks-only}
 use Rattle.words.specs.uniqueness.IcflUnfold.{icfl-whole, icfl-step}
 use Rattle.words.specs.cfl_in.CflInIs.{cfl-in-is}
 use Rattle.words.specs.cfl_in.CflInUnique.{cfl-in-unique}
@@ -180,6 +181,7 @@ module _ (c : Calls) (m : Meets c) (w : List ℕ) (s : 1 ≤ length w) where
     reasons = λ work ends breaks work′ ends′ breaks′ r h.
         gave-both w work ends breaks work′ ends′ breaks′ r (m .reasonedCut w work ends breaks r work′ ends′ breaks′ h);
     considered = icfl-breaks w s;
+    noOthers = breaks-only w;
     strictPieces = λ ends ends′ r h. gave refl (m .strictCut w ends r ends′ h);
     factors = cfl-in-is w;
     only = cfl-in-unique w;

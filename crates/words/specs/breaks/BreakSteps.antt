@@ -1,6 +1,6 @@
 -- The breaks as a walk over the word: Steps w i bs says that bs are the breaks of what follows place i. Steps are breaksFrom (breaks-steps), each makes the ends
 -- of the word from those of the rest (step-ended), and so the kept places and the word's end are the ends (steps-ends).
-use mathlib.Core.Path.{_≡_, refl, ap, _∙_}
+use mathlib.Core.Path.{_≡_, refl, ap, sym, _∙_}
 use mathlib.Core.Bool.{Bool, true, false}
 use mathlib.Core.List.{List, [], _∷_, _++_, flatten}
 use Prim.Native.Nat.{ℕ, zero, suc, _+_, _-_, _≤_, _<_}
@@ -8,14 +8,15 @@ use native.Mathlib.Omega.{arith}
 use lib.ListN.{length, take, drop, getD, length-append, length-drop}
 use lib.Seq.{length-take-le, drop-drop, getD-drop}
 use Rattle.words.specs.Words.{InverseLyndon}
-use Rattle.words.specs.Factorizations.{icfl, joinFirst, fateOf, firstBreak, breaksFrom, prefixLength, borderLength, endsFrom}
+use Rattle.words.specs.Factorizations.{icfl, joinFirst, fateOf, firstBreak, breaksFrom, failingLength, prefixLength, borderLength, endsFrom}
 use Rattle.words.specs.Statements.{placeIfKept, keptPlaces, DominatedBy, Linked, more}
 use Rattle.words.specs.declared.Fate.{Fate}
 use Rattle.words.specs.declared.Fate.the-variants.{Kept, Joined}
 use Rattle.words.specs.declared.Break.{Break}
 use Rattle.words.specs.orders.Decisions.{Decides, holds, fails, leb-test}
 use Rattle.words.specs.lyndon.WordTests.{inverse-lyndon-test}
-use Rattle.words.specs.icfl.BorderLength.{Step, step-is}
+use Rattle.words.specs.icfl.Failing.{failing-is, failing-unique}
+use Rattle.words.specs.icfl.BorderLength.{least-border-is, Step, step-is}
 use Rattle.words.specs.icfl.IcflFactors.{prefix-inside, prefix-positive}
 use Rattle.words.specs.icfl.IcflConcat.{icfl-concat}
 use Rattle.words.specs.icfl.IcflDominated.{icfl-dominated}
@@ -92,6 +93,37 @@ step-inside w i l n = omega (arith, step-at w i l n .failing .inside, length-dro
 pub step-positive : (w : List ℕ) (i : ℕ) → i < length w → ¬ InverseLyndon (drop i w) → 0 < prefixLength (drop i w)
 step-positive w i l n = prefix-positive (drop i w) (step-at w i l n)
 
+pub ended-same : {place place′ border border′ a a′ b b′ : ℕ} {es es′ ds ds′ : List ℕ} {f f′ : Fate}
+    → place ≡ place′ → border ≡ border′ → a ≡ a′ → b ≡ b′ → es ≡ es′ → ds ≡ ds′ → f ≡ f′
+    → Ended place border a b es ds f → Ended place′ border′ a′ b′ es′ ds′ f′
+ended-same x y z u t s r k = rw (← x, ← y, ← z, ← u, ← t, ← s, ← r) k
+
+-- the step at place i in places of w
+module _ (w : List ℕ) (i place border : ℕ) (l : i < length w) (n : ¬ InverseLyndon (drop i w))
+    (x : place ≡ i + prefixLength (drop i w)) (y : border ≡ borderLength (drop i w)) where
+  abbrev v : List ℕ
+  v = drop i w
+
+  left : getD v (borderLength v) 0 ≡ getD w (i + border) 0
+  left = rw y (getD-drop i w (borderLength v) 0)
+
+  right : getD v (prefixLength v + borderLength v) 0 ≡ getD w (place + border) 0
+  right =
+      let z : i + (prefixLength v + borderLength v) ≡ place + border = omega arith in
+      getD-drop i w (prefixLength v + borderLength v) 0 ∙ ap (λ (k : ℕ). getD w k 0) z
+
+  pub ended-in : Ended place border (getD w (i + border) 0) (getD w (place + border) 0) (endsFrom i (icfl v)) (endsFrom place (icfl (drop place w))) (firstFate v)
+  ended-in =
+      let later : endsFrom (i + prefixLength v) (icfl (drop (prefixLength v) v)) ≡ endsFrom place (icfl (drop place w))
+      = rw (drop-drop (prefixLength v) i w, ← x) in
+      ended-same (sym x) (sym y) left right refl later refl (step-ended i v (some-left w i l) n)
+
+  pub letters-rise : getD w (i + border) 0 < getD w (place + border) 0
+  letters-rise =
+      let some : 0 < length v = some-left w i l in
+      let z : failingLength v - 1 ≡ prefixLength v + borderLength v = omega (arith, failing-unique v _ (step-is v some n .failing)) in
+      rw (z, left, right) at (least-border-is v (failing-is v some n) .border .1 .1)
+
 steps-within : (k : ℕ) (w : List ℕ) (i : ℕ) → length w ≤ i + k → i < length w → Steps w i (breaksFrom i (drop i w))
 steps-within zero w i x l = absurd (omega arith)
 steps-within (suc k) w i x l = go (inverse-lyndon-test (drop i w)) (λ j y m. steps-within k w j y m)
@@ -143,25 +175,14 @@ pub record FirstOf (w : List ℕ) (i : ℕ) (b : Break) (bs : List Break) : Type
   pub ended : Ended (b .place) (b .border) (getD w (i + b .border) 0) (getD w (b .place + b .border) 0) (keptEnds w (b ∷ bs)) (keptEnds w bs) (b .fate)
   pub rest : Steps w (b .place) bs
 
-pub ended-same : {place place′ border border′ a a′ b b′ : ℕ} {es es′ ds ds′ : List ℕ} {f f′ : Fate}
-    → place ≡ place′ → border ≡ border′ → a ≡ a′ → b ≡ b′ → es ≡ es′ → ds ≡ ds′ → f ≡ f′
-    → Ended place border a b es ds f → Ended place′ border′ a′ b′ es′ ds′ f′
-ended-same x y z u t s r k = rw (← x, ← y, ← z, ← u, ← t, ← s, ← r) k
-
 pub steps-first : {w : List ℕ} {i : ℕ} {b : Break} {bs : List Break} → Steps w i (b ∷ bs) → FirstOf w i b bs
-steps-first {w} {i} (step {bs = bs} l n s) =
-    let v : List ℕ = drop i w in
-    let p : ℕ = prefixLength v in
-    let r : ℕ = borderLength v in
-    let right : getD v (p + r) 0 ≡ getD w (i + p + r) 0 = getD-drop i w (p + r) 0 ∙ ap (λ (k : ℕ). getD w k 0) (let z : i + (p + r) ≡ i + p + r = omega arith in z) in
-    let later : endsFrom (i + p) (icfl (drop p v)) ≡ keptEnds w bs = rw (drop-drop p i w) (steps-ends s) in
-    record {
-      starts = refl;
-      forward = omega (arith, step-positive w i l n);
-      inside = step-inside w i l n;
-      ended = ended-same refl refl (getD-drop i w r 0) right (steps-ends (step l n s)) later refl (step-ended i v (some-left w i l) n);
-      rest = s;
-    }
+steps-first {w} {i} (step l n s) = record {
+  starts = refl;
+  forward = omega (arith, step-positive w i l n);
+  inside = step-inside w i l n;
+  ended = ended-same refl refl refl refl (steps-ends (step l n s)) (steps-ends s) refl (ended-in w i _ _ l n refl refl);
+  rest = s;
+}
 
 -- break k, with those after it
 pub record BreakAt (w : List ℕ) (bs : List Break) (k : ℕ) : Type 0 where

@@ -1,36 +1,21 @@
 -- THEOREM icfl-breaks. The breaks of a nonempty word are as request 102 describes them: BreaksOf w (icflBreaks w).
-use mathlib.Core.Path.{_≡_, refl, ap, sym, _∙_}
+use mathlib.Core.Path.{_≡_, refl, ap, sym}
 use mathlib.Core.Logic.{_⊎_, inl, inr}
 use mathlib.Core.List.{List, [], _∷_, List·Memᴰ, List·Memᴰ·head, List·Memᴰ·tail, List·Memᴰ·cases-cons, List·Memᴰ·not-nil}
 use Prim.Native.Nat.{ℕ, suc, _+_, _-_, _≤_, _<_}
 use native.Mathlib.Omega.{arith}
 use lib.ListN.{length, drop, getD, length-drop}
-use lib.Seq.{drop-drop, getD-drop}
+use lib.Seq.{drop-drop}
 use Rattle.words.specs.Words.{InverseLyndon}
 use Rattle.words.specs.Factorizations.{icfl, icflEnds, firstBreak, icflBreaks, failingLength, prefixLength, borderLength, endsFrom}
 use Rattle.words.specs.Statements.{Chained, end, next, NextEnd, JoinedTo, BoundedExtension, BreaksOf}
 use Rattle.words.specs.declared.Fate.{Fate}
 use Rattle.words.specs.declared.Fate.the-variants.{Kept, Joined}
 use Rattle.words.specs.declared.Break.{Break}
-use Rattle.words.specs.icfl.Failing.{failing-is, failing-unique}
-use Rattle.words.specs.icfl.BorderLength.{least-border-is, step-is}
+use Rattle.words.specs.icfl.Failing.{failing-unique}
+use Rattle.words.specs.icfl.BorderLength.{step-is}
 use Rattle.words.specs.icfl.BoundedExtension.{extension-is}
-use Rattle.words.specs.breaks.BreakSteps.{
-  Ended,
-  kept,
-  joined,
-  First,
-  first-factor,
-  Steps,
-  whole,
-  step,
-  step-inside,
-  step-positive,
-  step-ended,
-  ended-same,
-  breaks-steps,
-  steps-ends,
-}
+use Rattle.words.specs.breaks.BreakSteps.{Ended, kept, joined, First, first-factor, Steps, whole, step, step-inside, step-positive, step-ended, ended-same, ended-in, letters-rise, breaks-steps, steps-ends}
 
 -- ---- the places
 
@@ -131,25 +116,11 @@ module _ (w : List ℕ) (b : Break) (k : StepOf w 0 b) where
       let z : b .place - b .begun ≡ prefixLength v = omega (arith, place-is) in
       rw (z, border-is, ← failing-sum) (extension-is v some (k .fails))
 
-  left : getD v (borderLength v) 0 ≡ getD w (b .begun + b .border) 0
-  left = rw border-is (getD-drop (b .begun) w (borderLength v) 0)
-
-  right : getD v (prefixLength v + borderLength v) 0 ≡ getD w (b .place + b .border) 0
-  right =
-      let z : b .begun + (prefixLength v + borderLength v) ≡ b .place + b .border = omega (arith, place-is, border-is) in
-      getD-drop (b .begun) w (prefixLength v + borderLength v) 0 ∙ ap (λ (i : ℕ). getD w i 0) z
-
-  rises : getD w (b .begun + b .border) 0 < getD w (b .place + b .border) 0
-  rises =
-      let z : failingLength v - 1 ≡ prefixLength v + borderLength v = omega (arith, failing-sum) in
-      rw (z, left, right) at (least-border-is v (failing-is v some (k .fails)) .border .1 .1)
-
   ended : Ended (b .place) (b .border) (getD w (b .begun + b .border) 0) (getD w (b .place + b .border) 0)
       (endsAfter w (b .begun)) (endsAfter w (b .place)) (b .fate)
   ended =
-      let later : endsFrom (b .begun + prefixLength v) (icfl (drop (prefixLength v) v)) ≡ endsAfter w (b .place)
-      = rw (drop-drop (prefixLength v) (b .begun) w, ← place-is) in
-      ended-same (sym place-is) (sym border-is) left right refl later (sym (ap (λ (c : Break). c .fate) (k .is))) (step-ended (b .begun) v some (k .fails))
+      ended-same refl refl refl refl refl refl (sym (ap (λ (c : Break). c .fate) (k .is)))
+      (ended-in w (b .begun) (b .place) (b .border) (k .inside) (k .fails) place-is border-is)
 
   letters-told : (x y : ℕ) → b .fate ≡ Kept x y → (x ≡ getD w (b .begun + b .border) 0) × (y ≡ getD w (b .place + b .border) 0) × (x < y)
   letters-told x y e = go ended e
@@ -159,7 +130,7 @@ module _ (w : List ℕ) (b : Break) (k : StepOf w 0 b) where
       go (kept h z) e =
           let p : x ≡ getD w (b .begun + b .border) 0 = cc in
           let q : y ≡ getD w (b .place + b .border) 0 = cc in
-          (p, q, rw (p, q) rises)
+          (p, q, rw (p, q) (letters-rise w (b .begun) (b .place) (b .border) (k .inside) (k .fails) place-is border-is))
       go (joined h t z) e = let z : _≡_ {A = ℕ} 0 1 = cc in absurd (omega arith)
 
   joined-told : (s : ℕ) → b .fate ≡ Joined s → JoinedTo w (b .place) (b .border) s
