@@ -3,6 +3,9 @@
 /// Room for the list of the longest record that is tried, 4,097 letters, and for some entries more.
 pub const ENTRIES: usize = 4110;
 
+/// Room for the breaks of such a record, five entries each.
+pub const BREAK_ENTRIES: usize = 5 * ENTRIES;
+
 fn wide(x: u16) -> usize {
     x as usize
 }

@@ -1,7 +1,8 @@
-//! The calls by name, and what those that are lent buffers answer, as a list of numbers: in the faster way and by the definitions.
+//! The calls by name, and what those that are lent buffers answer, as lists of numbers: in the faster way and by the definitions.
 use super::access::minus;
 use super::access::plus;
 use super::access::store_three;
+use super::breaks::write_breaks;
 use super::extension::border;
 use super::extension::failing_by_trial;
 use super::extension::failing_length;
@@ -16,12 +17,20 @@ use super::suffixes::strict_by_suffixes;
 pub enum Call {
     Test,
     Pieces,
+    Breaks,
     Strict,
     Starts,
     Compare,
     Common,
     Part,
     Summary,
+}
+
+/// Entries of the buffers of a call, those that it needs or those that it is lent: for its work, for its list, and for the breaks beside that.
+pub struct Room {
+    pub work: usize,
+    pub list: usize,
+    pub breaks: usize,
 }
 
 // The test's answer as a list: empty for an inverse Lyndon word, else L, |p| and |r|.
@@ -34,33 +43,56 @@ fn verdict(word: &[u8], failing: usize, list: &mut [u16]) -> usize {
     3
 }
 
-/// Writes what a call that is lent buffers answers, nothing for the others. Answers how many numbers.
-pub fn answer(call: Call, word: &[u8], list: &mut [u16]) -> usize {
+/// What a call needs for a record of n letters, where its list has `list` entries, and its breaks `breaks`.
+pub fn needed(call: Call, n: usize, list: usize, breaks: usize) -> Room {
+    let work = match call {
+        Call::Test => n,
+        Call::Pieces | Call::Breaks => plus(n, plus(n, n)),
+        _ => 0,
+    };
+    Room { work, list, breaks }
+}
+
+// Writes the list that a call answers, in the faster way. Answers how many entries it has.
+fn list_of(call: Call, word: &[u8], list: &mut [u16]) -> usize {
     match call {
         Call::Test => verdict(word, failing_length(word), list),
-        Call::Pieces => pieces_by_fold(word, list),
+        Call::Pieces | Call::Breaks => pieces_by_fold(word, list),
         Call::Strict => strict_by_suffixes(word, list),
         Call::Starts => starts_by_suffixes(word, list),
         _ => 0,
     }
 }
 
-/// The same by the definitions, which take cubic time.
-pub fn answer_by_definition(call: Call, word: &[u8], list: &mut [u16]) -> usize {
+// The same by the definitions.
+fn list_by_definition(call: Call, word: &[u8], list: &mut [u16]) -> usize {
     match call {
         Call::Test => verdict(word, failing_by_trial(word), list),
-        Call::Pieces => pieces_by_definition(word, list),
+        Call::Pieces | Call::Breaks => pieces_by_definition(word, list),
         Call::Strict => strict_by_longest(word, list),
         Call::Starts => starts_by_longest(word, list),
         _ => 0,
     }
 }
 
-/// How many work entries a call needs for a record of n letters.
-pub fn work_needed(call: Call, n: usize) -> usize {
+// Writes the breaks that a call answers beside its list, by the definitions or in the faster way. Answers how many entries they have.
+fn breaks_of(call: Call, word: &[u8], defined: bool, breaks: &mut [u16]) -> usize {
     match call {
-        Call::Test => n,
-        Call::Pieces => plus(n, plus(n, n)),
+        Call::Breaks => write_breaks(word, defined, breaks),
         _ => 0,
     }
+}
+
+/// Writes what a call that is lent buffers answers, nothing for the others. Answers the entries that it needs.
+pub fn answer(call: Call, word: &[u8], list: &mut [u16], breaks: &mut [u16]) -> Room {
+    let count = list_of(call, word, list);
+    let beside = breaks_of(call, word, false, breaks);
+    needed(call, word.len(), count, beside)
+}
+
+/// The same by the definitions, which take cubic time.
+pub fn answer_by_definition(call: Call, word: &[u8], list: &mut [u16], breaks: &mut [u16]) -> Room {
+    let count = list_by_definition(call, word, list);
+    let beside = breaks_of(call, word, true, breaks);
+    needed(call, word.len(), count, beside)
 }

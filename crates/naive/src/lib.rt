@@ -7,10 +7,12 @@ mod strict; // the strict cut and the start table by the longest anti-Lyndon pre
 mod suffixes; // the same two by comparing suffixes of the whole word
 mod pieces; // the piece cut by its recursive definition
 mod fold; // the piece cut as a fold over the strict cut
+mod breaks; // the breaks of the piece cut, step by step
 mod parts; // the parts that a list of ends marks, and their summary
 mod calls; // the calls by name, and the lists that they answer
 mod refusals; // the table of refusals
 
+pub use access::BREAK_ENTRIES;
 pub use access::ENTRIES;
 pub use access::entry;
 pub use access::front;
@@ -22,9 +24,10 @@ pub use access::store;
 pub use access::store_three;
 pub use access::tail;
 pub use calls::Call;
+pub use calls::Room;
 pub use calls::answer;
 pub use calls::answer_by_definition;
-pub use calls::work_needed;
+pub use calls::needed;
 pub use order::common;
 pub use order::sign;
 pub use parts::in_band;

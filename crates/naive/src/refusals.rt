@@ -1,6 +1,6 @@
 //! Paper 01's table of refusals. Each function gives the number of the first line that is met, 0 for none.
 use super::access::entry;
-use super::access::plus;
+use super::calls::Room;
 
 // A line of the table: its number where it is met, else what the lines below it say.
 fn line(met: bool, number: u8, below: u8) -> u8 {
@@ -12,9 +12,14 @@ fn record_lines(n: usize, below: u8) -> u8 {
     line(n == 0, 1, line(4096 < n, 2, below))
 }
 
-/// A call that needs `needed` work entries and `count` result entries, lent `room` and `space` of them.
-pub fn lent_refusal(n: usize, needed: usize, room: usize, count: usize, space: usize) -> u8 {
-    record_lines(n, line(room < needed, 3, line(space < count, 4, 0)))
+/// A call that is lent buffers: the entries that it needs, and those that it is lent.
+pub fn lent_refusal(n: usize, needed: Room, lent: Room) -> u8 {
+    let results = line(
+        lent.list < needed.list,
+        4,
+        line(lent.breaks < needed.breaks, 4, 0),
+    );
+    record_lines(n, line(lent.work < needed.work, 3, results))
 }
 
 /// The comparison.

@@ -4,7 +4,7 @@ use naive::Call;
 use naive::plus;
 
 // How many calls are compared.
-const CALLS: usize = 8;
+const CALLS: usize = 9;
 
 /// Where the generator's state stands: after two counts for each call, and two for its cases at the boundaries of the refusals.
 pub const STATE: usize = 4 * CALLS;
@@ -33,6 +33,7 @@ pub fn place(call: Call, limits: bool) -> usize {
         Call::Common => 10,
         Call::Part => 12,
         Call::Summary => 14,
+        Call::Breaks => 16,
     };
     if limits {
         plus(number, 2 * CALLS)
