@@ -1,4 +1,5 @@
 //! The groups of records, and the calls that are made on each.
+use naive::BREAK_ENTRIES;
 use naive::Call;
 use naive::ENTRIES;
 use naive::front;
@@ -38,25 +39,39 @@ fn write_record(group: Group, i: usize, word: &mut [u8], run: &mut Run) -> usize
     }
 }
 
+// Cases of a call that goes by ends, and is lent no buffers.
+fn try_by_ends(call: Call, many: usize, word: &[u8], ends: &[u16], run: &mut Run) {
+    try_cases(call, false, many, word, ends, front(ends, 0), run);
+}
+
 // What goes by the ends of the piece cut or of the strict cut: the reader and the summary.
 fn on_ends(word: &[u8], ends: &[u16], run: &mut Run) {
-    try_cases(Call::Part, false, ends.len(), word, ends, run);
-    try_cases(Call::Summary, false, 1, word, ends, run);
+    try_by_ends(Call::Part, ends.len(), word, ends, run);
+    try_by_ends(Call::Summary, 1, word, ends, run);
 }
 
 // What goes by the ends of the piece cut: the comparison too, which has 8 ranges of its own and 4 of whole pieces.
 fn on_pieces(word: &[u8], ends: &[u16], run: &mut Run) {
     on_ends(word, ends, run);
-    try_cases(Call::Compare, false, 12, word, ends, run);
-    try_cases(Call::Common, false, 4, word, ends, run);
+    try_by_ends(Call::Compare, 12, word, ends, run);
+    try_by_ends(Call::Common, 4, word, ends, run);
 }
 
 // The first cases of one call, and what goes by its ends.
 fn on_call(call: Call, limits: bool, many: usize, word: &[u8], run: &mut Run) {
     let mut list = [0u16; ENTRIES];
-    let count = naive::answer(call, word, &mut list);
-    let ends = front(&list, count);
-    try_cases(call, limits, many, word, ends, run);
+    let mut breaks = [0u16; BREAK_ENTRIES];
+    let found = naive::answer(call, word, &mut list, &mut breaks);
+    let ends = front(&list, found.list);
+    try_cases(
+        call,
+        limits,
+        many,
+        word,
+        ends,
+        front(&breaks, found.breaks),
+        run,
+    );
     if limits {
         return;
     }
@@ -73,12 +88,14 @@ fn on_record(word: &[u8], run: &mut Run) {
     on_call(Call::Starts, false, 1, word, run);
     on_call(Call::Strict, false, 1, word, run);
     on_call(Call::Pieces, false, 1, word, run);
+    on_call(Call::Breaks, false, 1, word, run);
 }
 
 // The calls that are lent buffers, at the boundaries of their refusals.
 fn on_lent(word: &[u8], run: &mut Run) {
     on_call(Call::Test, true, 4, word, run);
     on_call(Call::Pieces, true, 16, word, run);
+    on_call(Call::Breaks, true, 64, word, run);
     on_call(Call::Strict, true, 4, word, run);
     on_call(Call::Starts, true, 4, word, run);
 }

@@ -1,12 +1,14 @@
-//! Prints what paper 01 says of single records, as the calls answer it. The numbers that must come are the paper's, and stand in `stdout`; the file
-//! `args` has the records A to K.
+//! Prints what paper 01 and the requests say of single records, as the calls answer it. The numbers that must come are the papers', and stand in `stdout`;
+//! the file `args` has the records A to K.
 use checks::Counted;
 use checks::MOST;
 use compare::Comparison;
 use extension::Extension;
+use icfl::CountedBreaks;
 use libc::STDOUT_FILENO;
 use naive::entry;
 use naive::front;
+use naive::plus;
 use naive::store_three;
 
 // Numbers with commas between them.
@@ -21,15 +23,18 @@ fn print_list(list: &[u16]) {
     }
 }
 
+// The refusal's number.
+fn print_refusal(number: u8) {
+    io::write_all(STDOUT_FILENO, b"refusal ");
+    print_list(&[number as u16]);
+}
+
 // An answer: the entries of the result, or the refusal's number.
 fn print_answer(name: &[u8], answer: Counted, list: &[u16]) {
     io::write_all(STDOUT_FILENO, name);
     match answer {
         Counted::Count(count) => print_list(front(list, count)),
-        Counted::Refused(number) => {
-            io::write_all(STDOUT_FILENO, b"refusal ");
-            print_list(&[number as u16]);
-        }
+        Counted::Refused(number) => print_refusal(number),
     }
 }
 
@@ -111,6 +116,107 @@ fn print_room() {
     print_pieces(b"\nH with 1 entry pieces=", b"cbabacbac", &mut one);
 }
 
+// The five entries of a break from one on, where there are so many.
+fn print_break(list: &[u16], from: usize) {
+    if list.len() < 5 {
+        return;
+    }
+    if list.len() - 5 < from {
+        return;
+    }
+    io::write_all(STDOUT_FILENO, b"(");
+    print_list(&list[from..from + 5]);
+    io::write_all(STDOUT_FILENO, b")");
+}
+
+// So many breaks.
+fn print_breaks(list: &[u16], count: usize) {
+    let mut from: usize = 0;
+    let mut left = count;
+    while 0 < left {
+        print_break(list, from);
+        from = plus(from, 5);
+        left -= 1;
+    }
+}
+
+// The piece ends and the breaks, with so many entries lent as the buffers have.
+fn print_reasons(name: &[u8], word: &[u8], work: &mut [u16], ends: &mut [u16], list: &mut [u16]) {
+    io::write_all(STDOUT_FILENO, name);
+    match icfl::icfl_with_breaks(word, work, ends, list) {
+        CountedBreaks::Counts { factors, breaks } => {
+            io::write_all(STDOUT_FILENO, b"pieces=");
+            print_list(front(ends, factors));
+            io::write_all(STDOUT_FILENO, b" breaks=");
+            print_breaks(list, breaks);
+        }
+        CountedBreaks::Refused(number) => print_refusal(number),
+    }
+    io::write_all(STDOUT_FILENO, b"\n");
+}
+
+// The breaks of a shortest record that joins with nothing to spare, of one with a join inside another, and of a falling one.
+fn print_joins() {
+    let mut work = [0u16; 93];
+    let mut ends = [0u16; 2];
+    let mut list = [0u16; 15];
+    let mut none = [0u16; 0];
+    print_reasons(b"baababb: ", b"baababb", &mut work, &mut ends, &mut list);
+    print_reasons(
+        b"Joined twice: ",
+        b"cbabacaacbabaacbabacaacbabacbac",
+        &mut work,
+        &mut ends,
+        &mut list,
+    );
+    print_reasons(
+        b"F with no entry for breaks: ",
+        b"baba",
+        &mut work,
+        &mut ends,
+        &mut none,
+    );
+}
+
+// The breaks of I, with as many entries lent as it needs, and with one fewer in each of the three buffers.
+fn print_room_for_breaks() {
+    let word = b"cbabacaacbabacbac";
+    let mut work = [0u16; 51];
+    let mut ends = [0u16; 2];
+    let mut list = [0u16; 10];
+    let mut less_work = [0u16; 50];
+    let mut one = [0u16; 1];
+    let mut nine = [0u16; 9];
+    print_reasons(
+        b"I with 51, 2 and 10 entries: ",
+        word,
+        &mut work,
+        &mut ends,
+        &mut list,
+    );
+    print_reasons(
+        b"I with 50, 2 and 10 entries: ",
+        word,
+        &mut less_work,
+        &mut ends,
+        &mut list,
+    );
+    print_reasons(
+        b"I with 51, 1 and 10 entries: ",
+        word,
+        &mut work,
+        &mut one,
+        &mut list,
+    );
+    print_reasons(
+        b"I with 51, 2 and 9 entries: ",
+        word,
+        &mut work,
+        &mut ends,
+        &mut nine,
+    );
+}
+
 // Signs of H, and of a stretch that is not whole pieces.
 fn print_signs() {
     print_sign(b"\nH over 0 to 9, 0 and 5: ", b"cbabacbac", 0, 9, 0, 5);
@@ -127,7 +233,16 @@ fn refusal(answer: Counted) -> u16 {
     }
 }
 
-// The same of the calls that are lent buffers: the test, both cuts, the start table.
+// The same of the piece cut with breaks, lent no entry for these.
+fn refusal_beside(word: &[u8], work: &mut [u16], ends: &mut [u16]) -> u16 {
+    let mut none = [0u16; 0];
+    match icfl::icfl_with_breaks(word, work, ends, &mut none) {
+        CountedBreaks::Counts { .. } => 0,
+        CountedBreaks::Refused(number) => number as u16,
+    }
+}
+
+// The same of the calls that are lent buffers: the test, the piece cut alone and with its breaks, the strict cut, the start table.
 fn print_lent_refusals(word: &[u8]) {
     let mut work = [0u16; 3 * MOST];
     let mut list = [0u16; MOST];
@@ -136,9 +251,10 @@ fn print_lent_refusals(word: &[u8]) {
         _ => 0,
     };
     let pieces = refusal(icfl::icfl(word, &mut work, &mut list));
+    let broken = refusal_beside(word, &mut work, &mut list);
     let strict = refusal(cfl::cfl_in(word, &mut list));
     let starts = refusal(table::lyndon_table(word, &mut list));
-    print_list(&[tested, pieces, strict, starts]);
+    print_list(&[tested, pieces, broken, strict, starts]);
 }
 
 // The same of every call: those, then comparison, reader and summary.
@@ -157,7 +273,7 @@ fn print_refusals(name: &[u8], word: &[u8], ends: &[u16]) {
     io::write_all(STDOUT_FILENO, b"\n");
 }
 
-// The table, what is said of H and I and of a stretch, and the refusals at the greatest length and one above it.
+// The table, what is said of H and I and of a stretch, breaks, and the refusals at the greatest length and one above it.
 fn main() {
     print_table();
     print_starts();
@@ -165,6 +281,8 @@ fn main() {
     print_test(b"\nI test=", b"cbabacaacbabacbac");
     print_room();
     print_signs();
+    print_joins();
+    print_room_for_breaks();
     let word = [97u8; MOST + 1];
     print_refusals(b"4096 letters: ", &word[..MOST], &[4096]);
     print_refusals(b"4097 letters: ", &word, &[4097]);

@@ -1,17 +1,20 @@
-//! The calls that are lent buffers, with every entry of these: the test, both cuts, the start table.
+//! The calls that are lent buffers, with every entry of these: the test, the piece cut alone and with its breaks, the strict cut, the start table.
 use checks::Counted;
 use extension::Extension;
+use icfl::CountedBreaks;
+use naive::BREAK_ENTRIES;
 use naive::Call;
 use naive::ENTRIES;
+use naive::Room;
 use naive::front;
+use naive::needed;
 use naive::plus;
 use naive::store_three;
-use naive::work_needed;
 use samples::about;
 use samples::fill;
 use samples::is_left;
 
-// What the buffers hold before a call begins above these; no answer is so great.
+// What the work buffer and the result buffers hold before a call begins above these; no answer is so great.
 const WORK_SALT: usize = 20000;
 
 const SALT: usize = 40000;
@@ -35,99 +38,149 @@ fn test(word: &[u8], work: &mut [u16], list: &mut [u16]) -> Counted {
     }
 }
 
-// The call.
-fn call_with(call: Call, word: &[u8], work: &mut [u16], list: &mut [u16]) -> Counted {
-    match call {
-        Call::Test => test(word, work, list),
-        Call::Pieces => icfl::icfl(word, work, list),
-        Call::Strict => cfl::cfl_in(word, list),
-        _ => table::lyndon_table(word, list),
+// The answer of a call that gives no breaks.
+fn unbroken(answer: Counted) -> CountedBreaks {
+    match answer {
+        Counted::Refused(number) => CountedBreaks::Refused(number),
+        Counted::Count(factors) => CountedBreaks::Counts { factors, breaks: 0 },
     }
 }
 
-// The call, lent `room` work entries and `space` result entries; 99 where there are not so many.
-fn lend(
+// The call.
+fn call_with(
     call: Call,
     word: &[u8],
     work: &mut [u16],
-    room: usize,
     list: &mut [u16],
-    space: usize,
-) -> Counted {
-    if work.len() < room {
-        return Counted::Refused(99);
+    breaks: &mut [u16],
+) -> CountedBreaks {
+    match call {
+        Call::Test => unbroken(test(word, work, list)),
+        Call::Pieces => unbroken(icfl::icfl(word, work, list)),
+        Call::Breaks => icfl::icfl_with_breaks(word, work, list, breaks),
+        Call::Strict => unbroken(cfl::cfl_in(word, list)),
+        _ => unbroken(table::lyndon_table(word, list)),
     }
-    if list.len() < space {
-        return Counted::Refused(99);
-    }
-    call_with(call, word, &mut work[0..room], &mut list[0..space])
 }
 
-// Whether the answer is the list `want` or the refusal, and both buffers are as paper 01 says after it.
-fn is_right(
-    answer: Counted,
-    refused: u8,
-    needed: usize,
-    want: &[u16],
-    work: &[u16],
-    list: &[u16],
-) -> bool {
-    let answered = match answer {
-        Counted::Refused(number) => (refused != 0) & (number == refused),
-        Counted::Count(count) => (refused == 0) & (count == want.len()),
-    };
-    let cleared = if (refused == 0) | (refused == 4) {
-        needed
+// The call, lent so many entries of each buffer; 99 where there are not so many.
+fn lend(
+    call: Call,
+    word: &[u8],
+    lent: Room,
+    work: &mut [u16],
+    list: &mut [u16],
+    breaks: &mut [u16],
+) -> CountedBreaks {
+    let room = lent.work;
+    let space = lent.list;
+    let beside = lent.breaks;
+    if work.len() < room || list.len() < space || breaks.len() < beside {
+        return CountedBreaks::Refused(99);
+    }
+    call_with(
+        call,
+        word,
+        &mut work[0..room],
+        &mut list[0..space],
+        &mut breaks[0..beside],
+    )
+}
+
+// Whether the answer is the refusal, or counts the entries of both lists; a break has five.
+fn is_answer(answer: CountedBreaks, refused: u8, needed: Room) -> bool {
+    match answer {
+        CountedBreaks::Refused(number) => (refused != 0) & (number == refused),
+        CountedBreaks::Counts { factors, breaks } => (refused == 0)
+            & (factors == needed.list)
+            & (breaks == needed.breaks / 5),
+    }
+}
+
+// How many entries of the work buffer are cleared, of those that the call needs.
+fn cleared(refused: u8, needed: Room) -> usize {
+    if (refused == 0) | (refused == 4) {
+        needed.work
     } else {
         0
-    };
-    let written = if refused == 0 { want.len() } else { 0 };
-    answered
-        & is_left(work, cleared, front(want, 0), WORK_SALT)
-        & is_left(list, 0, front(want, written), SALT)
+    }
 }
 
-// Whether the call, lent so many work and result entries, does as the second implementation says.
-fn lent_is(call: Call, word: &[u8], room: usize, space: usize, want: &[u16]) -> bool {
+// What is written to a result buffer, of the list that is wanted.
+fn written(refused: u8, want: &[u16]) -> &[u16] {
+    front(want, if refused == 0 { want.len() } else { 0 })
+}
+
+// Whether the call, lent so many entries, does as the second implementation says: its answer, and every entry of the buffers.
+fn lent_is(call: Call, word: &[u8], lent: Room, want: &[u16], want_breaks: &[u16]) -> bool {
     let mut work = [0u16; 3 * ENTRIES];
     let mut list = [0u16; ENTRIES];
+    let mut breaks = [0u16; BREAK_ENTRIES];
     fill(&mut work, WORK_SALT);
     fill(&mut list, SALT);
-    let answer = lend(call, word, &mut work, room, &mut list, space);
-    let needed = work_needed(call, word.len());
-    let refused = naive::lent_refusal(word.len(), needed, room, want.len(), space);
-    is_right(answer, refused, needed, want, &work, &list)
+    fill(&mut breaks, SALT);
+    let answer = lend(call, word, lent, &mut work, &mut list, &mut breaks);
+    let least = needed(call, word.len(), want.len(), want_breaks.len());
+    let refused = naive::lent_refusal(word.len(), least, lent);
+    is_answer(answer, refused, least)
+        & is_left(&work, cleared(refused, least), front(want, 0), WORK_SALT)
+        & is_left(&list, 0, written(refused, want), SALT)
+        & is_left(&breaks, 0, written(refused, want_breaks), SALT)
 }
 
-// Whether the definitions give the same list, for a short record.
-fn is_defined(call: Call, word: &[u8], want: &[u16]) -> bool {
+// Whether the first entries, so many, are the list that is wanted.
+fn is_list(list: &[u16], count: usize, want: &[u16]) -> bool {
+    (count == want.len()) & is_left(front(list, count), 0, want, 0)
+}
+
+// Whether the definitions give the same lists, for a short record.
+fn is_defined(call: Call, word: &[u8], want: &[u16], want_breaks: &[u16]) -> bool {
     if SHORT < word.len() {
         return true;
     }
     let mut list = [0u16; SHORT];
-    let count = naive::answer_by_definition(call, word, &mut list);
-    (count == want.len()) & is_left(front(&list, count), 0, want, 0)
+    let mut breaks = [0u16; 5 * SHORT];
+    let found = naive::answer_by_definition(call, word, &mut list, &mut breaks);
+    is_list(&list, found.list, want) & is_list(&breaks, found.breaks, want_breaks)
 }
 
 /// With a few entries to spare, and by the definitions.
-pub fn agrees(call: Call, word: &[u8], want: &[u16]) -> bool {
+pub fn agrees(call: Call, word: &[u8], want: &[u16], want_breaks: &[u16]) -> bool {
     let n = word.len();
-    let room = plus(work_needed(call, n), n % 7);
-    lent_is(call, word, room, plus(want.len(), n % 5), want) & is_defined(call, word, want)
+    let least = needed(call, n, want.len(), want_breaks.len());
+    let lent = Room {
+        work: plus(least.work, n % 7),
+        list: plus(least.list, n % 5),
+        breaks: plus(least.breaks, n % 3),
+    };
+    lent_is(call, word, lent, want, want_breaks) & is_defined(call, word, want, want_breaks)
 }
 
-/// Case `code` at the boundaries of the buffers' lengths: no entry, one too few, as many as needed, one more; 4 where one buffer is lent, 16 for the
-/// piece cut.
-pub fn agrees_at_limits(call: Call, word: &[u8], want: &[u16], code: usize) -> bool {
-    let needed = work_needed(call, word.len());
-    match call {
-        Call::Test => lent_is(call, word, about(0, needed, code % 4 + 1), want.len(), want),
-        _ => lent_is(
-            call,
-            word,
-            about(0, needed, code / 4 % 4 + 1),
-            about(0, want.len(), code % 4 + 1),
-            want,
-        ),
-    }
+// No entry, one too few, as many as needed, one more.
+fn limit(needed: usize, code: usize) -> usize {
+    about(0, needed, code % 4 + 1)
+}
+
+/// Case `code` at the boundaries of the buffers' lengths: 4 where one buffer is lent, 16 for the piece cut, 64 with its breaks.
+pub fn agrees_at_limits(
+    call: Call,
+    word: &[u8],
+    want: &[u16],
+    want_breaks: &[u16],
+    code: usize,
+) -> bool {
+    let least = needed(call, word.len(), want.len(), want_breaks.len());
+    let lent = match call {
+        Call::Test => Room {
+            work: limit(least.work, code),
+            list: least.list,
+            breaks: 0,
+        },
+        _ => Room {
+            work: limit(least.work, code / 4),
+            list: limit(least.list, code),
+            breaks: limit(least.breaks, code / 16),
+        },
+    };
+    lent_is(call, word, lent, want, want_breaks)
 }

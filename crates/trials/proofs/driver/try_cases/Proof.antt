@@ -5,10 +5,10 @@ use Rattle.trials.proofs.driver.try_cases.Statement.{statement}
 use Rattle.trials.proofs.driver.try_cases.Tie as tie
 
 abbrev Inv-loop : tie.InvT-loop
-Inv-loop call limits many word list run₀ code₀ run code = Unit {0}
+Inv-loop call limits many word list breaks run₀ code₀ run code = Unit {0}
 
 abbrev μ-loop : tie.MeasureT-loop
-μ-loop call limits many word list run₀ code₀ run code = many - code
+μ-loop call limits many word list breaks run₀ code₀ run code = many - code
 
 pub try-cases-spec : {M : Type 1} → statement M
 try-cases-spec =
