@@ -140,10 +140,11 @@ fn print_breaks(list: &[u16], count: usize) {
     }
 }
 
-// The piece ends and the breaks, with so many entries lent as the buffers have.
-fn print_reasons(name: &[u8], word: &[u8], work: &mut [u16], ends: &mut [u16], list: &mut [u16]) {
+// The piece ends and the breaks, with so many entries lent for them as `ends` and `list` have.
+fn print_reasons(name: &[u8], word: &[u8], ends: &mut [u16], list: &mut [u16]) {
+    let mut work = [0u16; 3 * MOST];
     io::write_all(STDOUT_FILENO, name);
-    match icfl::icfl_with_breaks(word, work, ends, list) {
+    match icfl::icfl_with_breaks(word, &mut work, ends, list) {
         CountedBreaks::Counts { factors, breaks } => {
             io::write_all(STDOUT_FILENO, b"pieces=");
             print_list(front(ends, factors));
@@ -157,64 +158,30 @@ fn print_reasons(name: &[u8], word: &[u8], work: &mut [u16], ends: &mut [u16], l
 
 // The breaks of a shortest record that joins with nothing to spare, of one with a join inside another, and of a falling one.
 fn print_joins() {
-    let mut work = [0u16; 93];
-    let mut ends = [0u16; 2];
+    let mut two = [0u16; 2];
     let mut list = [0u16; 15];
     let mut none = [0u16; 0];
-    print_reasons(b"baababb: ", b"baababb", &mut work, &mut ends, &mut list);
-    print_reasons(
-        b"Joined twice: ",
-        b"cbabacaacbabaacbabacaacbabacbac",
-        &mut work,
-        &mut ends,
-        &mut list,
-    );
+    let twice = b"cbabacaacbabaacbabacaacbabacbac";
+    print_reasons(b"baababb: ", b"baababb", &mut two, &mut list);
+    print_reasons(b"Joined twice: ", twice, &mut two, &mut list);
     print_reasons(
         b"F with no entry for breaks: ",
         b"baba",
-        &mut work,
-        &mut ends,
+        &mut two,
         &mut none,
     );
 }
 
-// The breaks of I, with as many entries lent as it needs, and with one fewer in each of the three buffers.
+// The breaks of I, with as many entries lent as it needs, and with one fewer for the ends or for the breaks.
 fn print_room_for_breaks() {
     let word = b"cbabacaacbabacbac";
-    let mut work = [0u16; 51];
-    let mut ends = [0u16; 2];
-    let mut list = [0u16; 10];
-    let mut less_work = [0u16; 50];
+    let mut two = [0u16; 2];
     let mut one = [0u16; 1];
+    let mut ten = [0u16; 10];
     let mut nine = [0u16; 9];
-    print_reasons(
-        b"I with 51, 2 and 10 entries: ",
-        word,
-        &mut work,
-        &mut ends,
-        &mut list,
-    );
-    print_reasons(
-        b"I with 50, 2 and 10 entries: ",
-        word,
-        &mut less_work,
-        &mut ends,
-        &mut list,
-    );
-    print_reasons(
-        b"I with 51, 1 and 10 entries: ",
-        word,
-        &mut work,
-        &mut one,
-        &mut list,
-    );
-    print_reasons(
-        b"I with 51, 2 and 9 entries: ",
-        word,
-        &mut work,
-        &mut ends,
-        &mut nine,
-    );
+    print_reasons(b"I with 2 and 10 entries: ", word, &mut two, &mut ten);
+    print_reasons(b"I with 1 and 10 entries: ", word, &mut one, &mut ten);
+    print_reasons(b"I with 2 and 9 entries: ", word, &mut two, &mut nine);
 }
 
 // Signs of H, and of a stretch that is not whole pieces.
