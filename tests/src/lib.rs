@@ -11,7 +11,7 @@ use std::cmp::Ordering;
 
 pub type Filling = for<'a> fn(&[u8], &'a mut [u16]) -> Result<&'a [u16], Refusal>;
 
-/// An implementation of the crate's eight calls.
+/// An implementation of the crate's calls.
 #[allow(clippy::type_complexity)] // the crate's signatures
 pub struct Calls {
     pub find_extension: fn(&[u8], &mut [u16]) -> Result<Extension, Refusal>,

@@ -62,8 +62,8 @@ unfoldable pub fateOf : ℕ → ℕ → ℕ → List (List ℕ) → Fate
 fateOf a b r [] = Kept a b
 fateOf a b r (m ∷ ms) = elim (leb (length m) r) [ true ↦ Joined (r - length m) | false ↦ Kept a b ]
 
--- the break of the first step of w, which begins at place i: "the place where p ends, the place where that step began, and |r|", and its fate; a is the letter
--- after the first r of r a u r b, b the last
+-- the break (candidate cut point) of the first step of w, which begins at place i: "the place where p ends, the place where that step began, and |r|", and its
+-- fate; a is the letter after the first r of r a u r b, b the last one
 abbrev pub firstBreak : ℕ → List ℕ → Break
 firstBreak i w =
     let p : ℕ = prefixLength w in
