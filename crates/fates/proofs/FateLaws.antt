@@ -20,15 +20,15 @@ module _ (w : List ℕ) (i : ℕ) (b : Break) (bs : List Break) (f : FirstOf w i
   abbrev End : List ℕ → List ℕ → Fate → Type 0
   End es es′ g = Ended (b .place) (b .border) (getD w (i + b .border) 0) (getD w (b .place + b .border) 0) es es′ g
 
-  pub end-near : end ≤ b .place + b .border
+  end-near : end ≤ b .place + b .border
   end-near = go (f .ended)
     where
       go : {es es′ : List ℕ} {g : Fate} → End es es′ g → getD es 0 0 ≤ b .place + b .border
       go (kept h e) = rw e (omega arith)
       go (joined h s e) = rw e (omega arith)
 
-  pub near : Near w (b .place) i (b .border) end
-  near = record { forward = f .forward; inside = f .inside; near = end-near }
+  pub near : {e : ℕ} → e ≡ end → Near w (b .place) i (b .border) e
+  near z = record { forward = f .forward; inside = f .inside; near = omega (arith, end-near) }
 
   fate-is : fateBy w (b .place) i (b .border) end ≡ b .fate
   fate-is = go (f .ended)
@@ -39,9 +39,9 @@ module _ (w : List ℕ) (i : ℕ) (b : Break) (bs : List Break) (f : FirstOf w i
           let z : b .border - (getD es′ 0 0 - b .place) ≡ s = omega arith in
           rw (e, lt-ltb (b .place) (getD es′ 0 0) h) (ap Joined z)
 
-  pub break-is : breakBy w (b .place) i (b .border) end ≡ b
-  break-is =
-      rw fate-is
+  pub break-is : {e : ℕ} → e ≡ end → breakBy w (b .place) i (b .border) e ≡ b
+  break-is z =
+      rw (z, fate-is)
       (ap (λ (j : ℕ). let k : Break = record { place = b .place; begun = j; border = b .border; fate = b .fate } in k) (sym (f .starts)))
 
   -- its place is an end just where it is kept

@@ -41,10 +41,11 @@ some-end w bs = rw length-append (omega arith)
 
 -- ---- the loop
 
-pub record Writing (w work buffer₀ buffer : List ℕ) (count next begun k : ℕ) : Type 0 where
+pub record Writing (w work buffer₀ buffer : List ℕ) (count next end begun k : ℕ) : Type 0 where
   pub upto : k ≤ count
   pub steps : Steps w begun (drop k (icflBreaks w))
   pub inside : next < length w
+  pub current : end ≡ getD work next 0
   pub ends : slice next (length w) work ≡ keptEnds w (drop k (icflBreaks w))
   pub done : take (5 * k) buffer ++ entriesOf (drop k (icflBreaks w)) ≡ entriesOf (icflBreaks w)
   pub kept : drop (5 * k) buffer ≡ drop (5 * k) buffer₀
@@ -57,12 +58,13 @@ module _ (w work buffer₀ : List ℕ) (found : Found) (x : Writable w work foun
   abbrev bs : List Break
   bs = icflBreaks w
 
-  pub write-starts : Writing w work buffer₀ buffer₀ count (found .first) 0 0
+  pub write-starts : Writing w work buffer₀ buffer₀ count (found .first) (getD work (found .first) 0) 0 0
   unfolding icflBreaks
   write-starts = record {
     upto = omega arith;
     steps = breaks-steps w 0 (x .room .nonempty);
     inside = x .inside;
+    current = refl;
     ends = x .ends ∙ sym (icfl-breaks w (x .room .nonempty) .ends);
     done = refl;
     kept = refl;
@@ -75,7 +77,7 @@ module _ (w work buffer₀ : List ℕ) (found : Found) (x : Writable w work foun
   pub work-inside : length w ≤ length work
   work-inside = omega (arith, x .room .entries)
 
-  module _ (buffer : List ℕ) (next begun k : ℕ) (g : Writing w work buffer₀ buffer count next begun k) (l : k < count) where
+  module _ (buffer : List ℕ) (next end begun k : ℕ) (g : Writing w work buffer₀ buffer count next end begun k) (l : k < count) where
     break : BreakAt w bs k
     break = noted-break w work count (x .room .nonempty) (x .noted) k l
 
@@ -94,9 +96,6 @@ module _ (w work buffer₀ : List ℕ) (found : Found) (x : Writable w work foun
     abbrev border : ℕ
     border = getD work (length w + 2 * k + 1) 0
 
-    abbrev end : ℕ
-    end = getD work next 0
-
     place-is : place ≡ b .place
     unfolding break
     place-is = note-at w work count (x .room .nonempty) (x .noted) k l .0
@@ -109,16 +108,16 @@ module _ (w work buffer₀ : List ℕ) (found : Found) (x : Writable w work foun
     ends-are = g .ends ∙ ap (keptEnds w) (break .is)
 
     ends-cons : slice next (length w) work ≡ end ∷ slice (suc next) (length w) work
-    ends-cons = slice-cons next (length w) work 0 (g .inside) work-inside
+    ends-cons = rw (g .current) (slice-cons next (length w) work 0 (g .inside) work-inside)
 
     end-is : end ≡ getD (keptEnds w (b ∷ later)) 0 0
     end-is = ap (λ (t : List ℕ). getD t 0 0) (sym ends-cons ∙ ends-are)
 
     pub near-at : Near w place begun border end
-    near-at = rw (place-is, border-is, end-is) (near w begun b later first)
+    near-at = rw (place-is, border-is) (near w begun b later first end-is)
 
     made : breakBy w place begun border end ≡ b
-    made = rw (place-is, border-is, end-is) (break-is w begun b later first)
+    made = rw (place-is, border-is) (break-is w begun b later first end-is)
 
     pub room-at : 5 * k + 5 ≤ length buffer
     room-at = omega (arith, x .entries, g .long)
@@ -128,6 +127,11 @@ module _ (w work buffer₀ : List ℕ) (found : Found) (x : Writable w work foun
     kept-left z =
         let same : b .place ≡ getD (keptEnds w (b ∷ later)) 0 0 = sym place-is ∙ (z ∙ end-is) in
         tail-eq-of-cons-eq (sym ends-cons ∙ (ends-are ∙ kept-ends-on w begun b later first same))
+
+    pub next-inside : place ≡ end → next + 1 < length w
+    next-inside z =
+        let left : length w - suc next ≡ length (keptEnds w later) = sym (length-slice (suc next) (length w) work work-inside) ∙ ap length (kept-left z) in
+        omega (arith, left, some-end w later)
 
     -- c is the break that was made, buffer′ what the five stores left
     module _ (c : Break) (buffer′ : List ℕ) (m : c ≡ breakBy w place begun border end) (e : buffer′ ≡ sets buffer (5 * k) (breakEntries c)) where
@@ -143,7 +147,8 @@ module _ (w work buffer₀ : List ℕ) (found : Found) (x : Writable w work foun
       past : drop (5 * (k + 1)) buffer′ ≡ drop (5 * (k + 1)) buffer
       past = ap (drop (5 * (k + 1))) stored-is ∙ drop-stored buffer (breakEntries b) (5 * k) (5 * (k + 1)) size (omega (arith, room-at))
 
-      written-on : (next′ : ℕ) → next′ < length w → slice next′ (length w) work ≡ keptEnds w later → Writing w work buffer₀ buffer′ count next′ place (k + 1)
+      written-on : (next′ : ℕ) → next′ < length w → slice next′ (length w) work ≡ keptEnds w later
+          → Writing w work buffer₀ buffer′ count next′ (getD work next′ 0) place (k + 1)
       written-on next′ i t =
           let z : suc k ≡ k + 1 = omega arith in
           let all : (take (5 * k) buffer ++ breakEntries b) ++ entriesOf later ≡ entriesOf bs
@@ -153,31 +158,30 @@ module _ (w work buffer₀ : List ℕ) (found : Found) (x : Writable w work foun
             upto = omega arith;
             steps = rw (place-is, ← z) (first .rest);
             inside = i;
+            current = refl;
             ends = rw (← z) t;
             done = ap (λ (us : List ℕ). us ++ entriesOf (drop (k + 1) bs)) taken ∙ (rw z at all);
             kept = past ∙ kept-past (5 * k) (5 * (k + 1)) buffer buffer₀ (omega arith) (g .kept);
             long = ap length stored-is ∙ (length-sets buffer (5 * k) (breakEntries b) ∙ g .long);
           }
 
-      kept-on : place ≡ end → Writing w work buffer₀ buffer′ count (next + 1) place (k + 1)
-      kept-on z =
-          let n : suc next ≡ next + 1 = omega arith in
-          let left : length w - suc next ≡ length (keptEnds w later) = sym (length-slice (suc next) (length w) work work-inside) ∙ ap length (kept-left z) in
-          written-on (next + 1) (omega (arith, left, some-end w later)) (rw (← n) (kept-left z))
+      kept-on : place ≡ end → Writing w work buffer₀ buffer′ count (next + 1) (getD work (next + 1) 0) place (k + 1)
+      kept-on z = written-on (next + 1) (next-inside z) (let n : suc next ≡ next + 1 = omega arith in rw (← n) (kept-left z))
 
-      joined-on : ¬ (place ≡ end) → Writing w work buffer₀ buffer′ count next place (k + 1)
+      joined-on : ¬ (place ≡ end) → Writing w work buffer₀ buffer′ count next end place (k + 1)
       joined-on n =
           let other : ¬ (b .place ≡ getD (keptEnds w (b ∷ later)) 0 0) = λ e. n (place-is ∙ (e ∙ sym end-is)) in
-          written-on next (g .inside) (ends-are ∙ joined-ends-on w begun b later first other)
+          rw (g .current) (written-on next (g .inside) (ends-are ∙ joined-ends-on w begun b later first other))
 
-      pub write-on : (next′ : ℕ) → ((place ≡ end) × (next′ ≡ next + 1)) ⊎ ((¬ (place ≡ end)) × (next′ ≡ next))
-          → Writing w work buffer₀ buffer′ count next′ place (k + 1)
-      write-on next′ (inl z) = rw (z .1) (kept-on (z .0))
-      write-on next′ (inr z) = rw (z .1) (joined-on (z .0))
+      pub write-on : (next′ end′ : ℕ)
+          → ((place ≡ end) × (next′ ≡ next + 1) × (end′ ≡ getD work (next + 1) 0)) ⊎ ((¬ (place ≡ end)) × (next′ ≡ next) × (end′ ≡ end))
+          → Writing w work buffer₀ buffer′ count next′ end′ place (k + 1)
+      write-on next′ end′ (inl z) = rw (z .1, z .2) (kept-on (z .0))
+      write-on next′ end′ (inr z) = rw (z .1, z .2) (joined-on (z .0))
 
-  pub write-ends : (buffer : List ℕ) (next begun k : ℕ) → Writing w work buffer₀ buffer count next begun k → count ≤ k → buffer ≡ written (entriesOf bs) buffer₀
+  pub write-ends : (buffer : List ℕ) (next end begun k : ℕ) → Writing w work buffer₀ buffer count next end begun k → count ≤ k → buffer ≡ written (entriesOf bs) buffer₀
   unfolding flatten
-  write-ends buffer next begun k g l =
+  write-ends buffer next end begun k g l =
       let z : k ≡ length bs = omega (arith, g .upto, x .noted .number) in
       let none : drop k bs ≡ [] = drop-of-length-le bs {i = k} (omega (arith, z)) in
       let all : take (5 * k) buffer ≡ entriesOf bs = sym (append-nil (take (5 * k) buffer)) ∙ (rw none at (g .done)) in

@@ -63,16 +63,17 @@ pub fn write_breaks(word: &[u8], work: &[u16], found: Found, buffer: &mut [u16])
     let n = word.len();
     let count = found.breaks;
     let mut next = found.first;
+    let mut end = work[next];
     let mut begun: u16 = 0;
     let mut k: usize = 0;
     while k < count {
         let place = work[n + 2 * k];
         let border = work[n + 2 * k + 1];
-        let end = work[next];
         let b = break_of(word, place, begun, border, end);
         write_break(b, buffer, 5 * k);
         if place == end {
             next += 1;
+            end = work[next];
         }
         begun = place;
         k += 1;
