@@ -30,10 +30,11 @@ slice-more xs i n v l m =
 abbrev endsAfter : List ℕ → ℕ → List ℕ
 endsAfter w k = keptEnds w (drop k (icflBreaks w))
 
-pub record Gathering (w work₀ work : List ℕ) (count k top : ℕ) : Type 0 where
+pub record Gathering (w work₀ work : List ℕ) (count k top next : ℕ) : Type 0 where
   pub upto : k ≤ count
   pub low : length w + k ≤ top + 1 + count
   pub high : top < length w
+  pub current : next ≡ getD work top 0
   pub ends : slice top (length w) work ≡ endsAfter w k
   pub kept : drop (length w) work ≡ drop (length w) work₀
   pub long : length work ≡ length work₀
@@ -52,7 +53,7 @@ module _ (w work : List ℕ) (count : ℕ) (r : CutRoom w work) (x : Noted w wor
   pub started-noted : Noted w started count
   started-noted = noted-kept started-kept x
 
-  pub gather-starts : Gathering w started started count count (length w - 1)
+  pub gather-starts : Gathering w started started count count (length w - 1) (length w)
   unfolding keptPlaces
   gather-starts =
       let none : drop count (icflBreaks w) ≡ [] = drop-of-length-le (icflBreaks w) {i = count} (omega (arith, x .number)) in
@@ -61,12 +62,13 @@ module _ (w work : List ℕ) (count : ℕ) (r : CutRoom w work) (x : Noted w wor
         upto = omega arith;
         low = omega (arith, r .nonempty);
         high = omega (arith, r .nonempty);
+        current = sym (getD-set-same work (length w - 1) (length w) 0 (omega (arith, r .entries, r .nonempty)));
         ends = rw none (slice-more work (length w - 1) (length w) (length w) (omega (arith, r .nonempty)) (omega (arith, r .entries)) ∙ rw (z, slice-empty));
         kept = refl;
         long = refl;
       }
 
-module _ (w work₀ work : List ℕ) (count k top : ℕ) (r : CutRoom w work₀) (x : Noted w work₀ count) (g : Gathering w work₀ work count k top) where
+module _ (w work₀ work : List ℕ) (count k top next : ℕ) (r : CutRoom w work₀) (x : Noted w work₀ count) (g : Gathering w work₀ work count k top next) where
   pub top-inside : top < length work
   top-inside = omega (arith, g .high, g .long, r .entries)
 
@@ -93,8 +95,8 @@ module _ (w work₀ work : List ℕ) (count k top : ℕ) (r : CutRoom w work₀)
     border-is = note-at w work count (r .nonempty) noted i left .1
 
     -- entry top is the end of the first factor of what follows
-    next-is : getD work top 0 ≡ getD (endsAfter w k) 0 0
-    next-is = ap (λ (t : List ℕ). getD t 0 0) (sym (slice-cons top (length w) work 0 (g .high) (omega (arith, r .entries, g .long))) ∙ g .ends)
+    next-is : next ≡ getD (endsAfter w k) 0 0
+    next-is = g .current ∙ ap (λ (t : List ℕ). getD t 0 0) (sym (slice-cons top (length w) work 0 (g .high) (omega (arith, r .entries, g .long))) ∙ g .ends)
 
     pub note-inside : length w + 2 * i + 1 < length work
     note-inside = omega (arith, g .long, r .entries, few-noted w work₀ count (r .nonempty) x, left)
@@ -109,11 +111,12 @@ module _ (w work₀ work : List ℕ) (count k top : ℕ) (r : CutRoom w work₀)
         let after : endsAfter w i ≡ keptEnds w (break .break ∷ drop k (icflBreaks w)) = ap (keptEnds w) (rw z at (break .is)) in
         rw after (rw z at (break .first .ended))
 
-    pub joined-on : getD work top 0 ≤ getD work (length w + 2 * i) 0 + getD work (length w + 2 * i + 1) 0 → Gathering w work₀ work count i top
+    pub joined-on : next ≤ getD work (length w + 2 * i) 0 + getD work (length w + 2 * i + 1) 0 → Gathering w work₀ work count i top next
     joined-on l = record {
       upto = omega (arith, g .upto);
       low = omega (arith, g .low);
       high = g .high;
+      current = g .current;
       ends = g .ends ∙ sym (go ended);
       kept = g .kept;
       long = g .long;
@@ -123,14 +126,15 @@ module _ (w work₀ work : List ℕ) (count k top : ℕ) (r : CutRoom w work₀)
         go (joined h s e) = e
         go (kept h e) = absurd (omega (arith, place-is, border-is, next-is))
 
-    pub kept-on : getD work (length w + 2 * i) 0 + getD work (length w + 2 * i + 1) 0 < getD work top 0
-        → Gathering w work₀ (set work (top - 1) (getD work (length w + 2 * i) 0)) count i (top - 1)
+    pub kept-on : getD work (length w + 2 * i) 0 + getD work (length w + 2 * i + 1) 0 < next
+        → Gathering w work₀ (set work (top - 1) (getD work (length w + 2 * i) 0)) count i (top - 1) (getD work (length w + 2 * i) 0)
     kept-on l =
         let z : suc (top - 1) ≡ top = omega (arith, top-positive) in
         record {
           upto = omega (arith, g .upto);
           low = omega (arith, g .low, top-positive);
           high = omega (arith, g .high);
+          current = sym (getD-set-same work (top - 1) (getD work (length w + 2 * i) 0) 0 (omega (arith, top-inside)));
           ends =
               slice-more work (top - 1) (length w) (getD work (length w + 2 * i) 0) (omega (arith, g .high)) (omega (arith, r .entries, g .long))
               ∙ (rw (z, place-is, g .ends) (sym (go ended)));
@@ -143,9 +147,9 @@ module _ (w work₀ work : List ℕ) (count k top : ℕ) (r : CutRoom w work₀)
         go (kept h e) = e
         go (joined h s e) = absurd (omega (arith, place-is, border-is, next-is))
 
-pub gather-ends : (w work₀ work : List ℕ) (count k top : ℕ) → CutRoom w work₀ → Gathering w (set work₀ (length w - 1) (length w)) work count k top → k ≤ 0
-    → EndsGathered w work₀ top work
-gather-ends w work₀ work count k top r g l =
+pub gather-ends : (w work₀ work : List ℕ) (count k top next : ℕ) → CutRoom w work₀ → Gathering w (set work₀ (length w - 1) (length w)) work count k top next
+    → k ≤ 0 → EndsGathered w work₀ top work
+gather-ends w work₀ work count k top next r g l =
     let z : k ≡ 0 = omega arith in
     record {
       inside = g .high;

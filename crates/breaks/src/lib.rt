@@ -45,15 +45,16 @@ fn gather_ends(word: &[u8], work: &mut [u16], count: usize) -> usize
     let n = word.len();
     let mut k = count;
     let mut top = n - 1;
+    let mut next = n;
     work[top] = n as u16;
     while 0 < k {
         k -= 1;
         let place = work[n + 2 * k] as usize;
         let border = work[n + 2 * k + 1] as usize;
-        let next = work[top] as usize;
         if place + border < next {
             top -= 1;
             work[top] = place as u16;
+            next = place;
         }
     }
     top

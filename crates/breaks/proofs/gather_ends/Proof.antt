@@ -11,10 +11,10 @@ use Rattle.breaks.proofs.gather_ends.Statement.{statement}
 use Rattle.breaks.proofs.gather_ends.Tie as tie
 
 abbrev Inv-loop : tie.InvT-loop
-Inv-loop word work₀ count n k₀ top₀ work k top = Gathering word work₀ work count k top
+Inv-loop word work₀ count n k₀ top₀ next₀ work k top next = Gathering word work₀ work count k top next
 
 abbrev μ-loop : tie.MeasureT-loop
-μ-loop word work₀ count n k₀ top₀ work k top = k
+μ-loop word work₀ count n k₀ top₀ next₀ work k top next = k
 
 -- the buffer with which the loop begins
 room-at : (c : tie.In-loop Inv-loop μ-loop) → (let start = c .before .before in
@@ -33,12 +33,12 @@ inside-at c =
     let turn = c .before in
     let start = turn .before in
     let few = few-noted _ _ _ (start .pre .0 .nonempty) (start .pre .1) in (
-      note-inside _ _ _ _ _ _ (room-at c) (noted-at c) (turn .loop .inv) (c .loop-test .taken),
-      top-inside _ _ _ _ _ _ (room-at c) (noted-at c) (turn .loop .inv),
+      note-inside _ _ _ _ _ _ _ (room-at c) (noted-at c) (turn .loop .inv) (c .loop-test .taken),
+      top-inside _ _ _ _ _ _ _ (room-at c) (noted-at c) (turn .loop .inv),
       turn .loop .inv .high,
       omega (arith, turn .loop .inv .upto, few, start .pre .0 .short),
       start .pre .0 .short,
-      top-positive _ _ _ _ _ _ (room-at c) (noted-at c) (turn .loop .inv) (c .loop-test .taken),
+      top-positive _ _ _ _ _ _ _ (room-at c) (noted-at c) (turn .loop .inv) (c .loop-test .taken),
     )
 
 sub-top : tie.Need-sub-top Inv-loop μ-loop
@@ -94,60 +94,51 @@ cast-border c =
     let turn = c .before .before .before in
     omega (arith, c .slice-known2 .given (length (turn .before .args .word .now) + 2 * (turn .loop .k - 1) + 1) .fits)
 
-mul-next : tie.Need-mul-next Inv-loop μ-loop
-mul-next c = omega (arith, inside-at (c .before .before))
-
-slice-read-next : tie.Need-slice-read-next Inv-loop μ-loop
-slice-read-next c = omega (arith, inside-at (c .before .before .before))
-
-cast-next : tie.Need-cast-next Inv-loop μ-loop
-cast-next c = omega (arith, c .slice-known3 .given (c .before .before .before .before .loop .top) .fits)
-
 add-if1 : tie.Need-add-if1 Inv-loop μ-loop
 add-if1 c =
-    let turn = c .before .before .before .before in
+    let turn = c .before .before .before in
     let i = length (turn .before .args .word .now) + 2 * (turn .loop .k - 1) in
-    omega (arith, c .before .before .slice-known .given i .fits, c .before .slice-known2 .given (i + 1) .fits)
+    omega (arith, c .before .slice-known .given i .fits, c .slice-known2 .given (i + 1) .fits)
 
 sub-top-2 : tie.Need-sub-top-2 Inv-loop μ-loop
-sub-top-2 c = omega (arith, inside-at (c .before .before .before .before))
+sub-top-2 c = omega (arith, inside-at (c .before .before .before))
 
 cast-work-2 : tie.Need-cast-work-2 Inv-loop μ-loop
 cast-work-2 c =
-    let turn = c .before .before .before .before .before in
-    omega (arith, c .before .before .before .slice-known .given (length (turn .before .args .word .now) + 2 * (turn .loop .k - 1)) .fits)
+    let turn = c .before .before .before .before in
+    omega (arith, c .before .before .slice-known .given (length (turn .before .args .word .now) + 2 * (turn .loop .k - 1)) .fits)
 
 mul-work-2 : tie.Need-mul-work-2 Inv-loop μ-loop
-mul-work-2 c = omega (arith, inside-at (c .before .before .before .before))
+mul-work-2 c = omega (arith, inside-at (c .before .before .before))
 
 slice-write-work-2 : tie.Need-slice-write-work-2 Inv-loop μ-loop
-slice-write-work-2 c = omega (arith, inside-at (c .before .before .before .before))
+slice-write-work-2 c = omega (arith, inside-at (c .before .before .before))
 
 loop-less : tie.Need-loop-less Inv-loop μ-loop
 loop-less c = search needs
 
 loop-again : tie.Need-loop-again Inv-loop μ-loop
 loop-again c =
-    let at-turn = c .before .before .before .before in
-    kept-on _ _ _ _ _ _ (room-at at-turn) (noted-at at-turn) (at-turn .before .loop .inv) (at-turn .loop-test .taken) (c .if1 .taken)
+    let at-turn = c .before .before .before in
+    kept-on _ _ _ _ _ _ _ (room-at at-turn) (noted-at at-turn) (at-turn .before .loop .inv) (at-turn .loop-test .taken) (c .if1 .taken)
 
 loop-less-2 : tie.Need-loop-less-2 Inv-loop μ-loop
 loop-less-2 c = search needs
 
 loop-again-2 : tie.Need-loop-again-2 Inv-loop μ-loop
 loop-again-2 c =
-    let at-turn = c .before .before .before .before in
-    joined-on _ _ _ _ _ _ (room-at at-turn) (noted-at at-turn) (at-turn .before .loop .inv) (at-turn .loop-test .taken) (c .if1 .left)
+    let at-turn = c .before .before .before in
+    joined-on _ _ _ _ _ _ _ (room-at at-turn) (noted-at at-turn) (at-turn .before .loop .inv) (at-turn .loop-test .taken) (c .if1 .left)
 
 same-length : tie.Need-same-length Inv-loop μ-loop
 same-length c = rw length-set at (c .before .loop .inv .long)
 
 returns : tie.Need-returns Inv-loop μ-loop
-returns c = gather-ends _ _ _ _ _ _ (c .before .before .pre .0) (c .before .loop .inv) (c .loop-test .left)
+returns c = gather-ends _ _ _ _ _ _ _ (c .before .before .pre .0) (c .before .loop .inv) (c .loop-test .left)
 
 pub gather-ends-spec : {M : Type 1} → statement M
 gather-ends-spec =
     tie.close
     (tie.spec Inv-loop μ-loop sub-top cast-work mul-work slice-write-work loop-holds sub-k mul-place add-place mul-place-2 slice-read-place
-    cast-place mul-border add-border add-border-2 mul-border-2 slice-read-border cast-border mul-next slice-read-next cast-next add-if1
+    cast-place mul-border add-border add-border-2 mul-border-2 slice-read-border cast-border add-if1
     sub-top-2 cast-work-2 mul-work-2 slice-write-work-2 loop-less loop-again loop-less-2 loop-again-2 same-length returns)
