@@ -33,7 +33,8 @@ module _ (w work : List ℕ) (count : ℕ) (some : 0 < length w) (x : Noted w wo
     unfolding icflBreaks
     noted-break = break-at (breaks-steps w 0 some) k (omega (arith, x .number))
 
-    note-of : (j : ℕ) → getD (notesOf (icflBreaks w)) (2 * k + j) 0 ≡ getD (noted-break .break .place ∷ noted-break .break .border ∷ notesOf (drop (suc k) (icflBreaks w))) j 0
+    note-of : (j : ℕ) → getD (notesOf (icflBreaks w)) (2 * k + j) 0
+        ≡ getD (noted-break .break .place ∷ noted-break .break .border ∷ notesOf (drop (suc k) (icflBreaks w))) j 0
     unfolding notesOf
     note-of j = sym (getD-drop (2 * k) (notesOf (icflBreaks w)) j 0) ∙ ap (λ (t : List ℕ). getD t j 0) (drop-notes k (icflBreaks w) ∙ ap notesOf (noted-break .is))
 

@@ -85,7 +85,8 @@ pub extern "C" fn metsroeb_icfl_breaks(
     count: &mut u16,
     break_count: &mut u16,
 ) -> u8
-    ensures { λ r. ⌜ BreaksNumbers (now (word .entry)) (now (work .entry)) (now (ends .entry)) (now (breaks .entry)) r (now (count .exit)) (now («break_count» .exit)) (now (work .exit)) (now (ends .exit)) (now (breaks .exit)) ⌝ }
+    ensures { λ r. ⌜ BreaksNumbers (now (word .entry)) (now (work .entry)) (now (ends .entry)) (now (breaks .entry)) r
+        (now (count .exit)) (now («break_count» .exit)) (now (work .exit)) (now (ends .exit)) (now (breaks .exit)) ⌝ }
 {
     let found = icfl::icfl_with_breaks(word, work, ends, breaks);
     match found {

@@ -1,5 +1,5 @@
--- The pass from left to right, over plain lists: the entries that were written, with those of the breaks that are left after them, are the entries of all breaks;
--- from entry next on stand the ends that are left.
+-- The pass from left to right, over plain lists: the entries that were written, with those of the breaks that are left after them, are the entries of all
+-- breaks; from entry next on stand the ends that are left.
 use mathlib.Core.Path.{_≡_, refl, ap, sym, _∙_}
 use mathlib.Core.Logic.{_⊎_, inl, inr}
 use mathlib.Core.List.{List, [], _∷_, _++_, append-assoc, append-nil, flatten, tail-eq-of-cons-eq}
@@ -179,11 +179,14 @@ module _ (w work buffer₀ : List ℕ) (found : Found) (x : Writable w work foun
       write-on next′ end′ (inl z) = rw (z .1, z .2) (kept-on (z .0))
       write-on next′ end′ (inr z) = rw (z .1, z .2) (joined-on (z .0))
 
-  pub write-ends : (buffer : List ℕ) (next end begun k : ℕ) → Writing w work buffer₀ buffer count next end begun k → count ≤ k → buffer ≡ written (entriesOf bs) buffer₀
+  pub write-ends : (buffer : List ℕ) (next end begun k : ℕ) → Writing w work buffer₀ buffer count next end begun k → count ≤ k
+      → buffer ≡ written (entriesOf bs) buffer₀
   unfolding flatten
   write-ends buffer next end begun k g l =
       let z : k ≡ length bs = omega (arith, g .upto, x .noted .number) in
       let none : drop k bs ≡ [] = drop-of-length-le bs {i = k} (omega (arith, z)) in
       let all : take (5 * k) buffer ≡ entriesOf bs = sym (append-nil (take (5 * k) buffer)) ∙ (rw none at (g .done)) in
       let size : 5 * k ≡ length (entriesOf bs) = rw (length-entries bs, z) in
-      sym (take-append-drop (5 * k) buffer) ∙ (ap (λ (t : List ℕ). t ++ drop (5 * k) buffer) all ∙ ap (λ (t : List ℕ). entriesOf bs ++ t) (g .kept ∙ ap (λ (m : ℕ). drop m buffer₀) size))
+      sym (take-append-drop (5 * k) buffer)
+      ∙ (ap (λ (t : List ℕ). t ++ drop (5 * k) buffer) all
+      ∙ ap (λ (t : List ℕ). entriesOf bs ++ t) (g .kept ∙ ap (λ (m : ℕ). drop m buffer₀) size))

@@ -18,7 +18,8 @@ pub fn icfl_with_breaks(
     ends: &mut [u16],
     breaks: &mut [u16],
 ) -> CountedBreaks
-    ensures { λ r. ⌜ BreaksDone (now (word .entry)) (now (work .entry)) (now (ends .entry)) (now (breaks .entry)) r (now (work .exit)) (now (ends .exit)) (now (breaks .exit)) ⌝ }
+    ensures { λ r. ⌜ BreaksDone (now (word .entry)) (now (work .entry)) (now (ends .entry)) (now (breaks .entry)) r
+        (now (work .exit)) (now (ends .exit)) (now (breaks .exit)) ⌝ }
 {
     let admitted = admit(word, work.len());
     let Checked::Passed = admitted else {

@@ -6,7 +6,18 @@ use lib.ListN.{length, set, length-set}
 use Rattle.words.specs.Words.{mostLetters}
 use Rattle.breaks.specs.Cutting.{CutRoom, Noted}
 use Rattle.breaks.proofs.NoteLaws.{few-noted}
-use Rattle.breaks.proofs.Gathering.{Gathering, started-room, started-noted, gather-starts, top-inside, note-inside, top-positive, joined-on, kept-on, gather-ends}
+use Rattle.breaks.proofs.Gathering.{
+  Gathering,
+  started-room,
+  started-noted,
+  gather-starts,
+  top-inside,
+  note-inside,
+  top-positive,
+  joined-on,
+  kept-on,
+  gather-ends,
+}
 use Rattle.breaks.proofs.gather_ends.Statement.{statement}
 use Rattle.breaks.proofs.gather_ends.Tie as tie
 

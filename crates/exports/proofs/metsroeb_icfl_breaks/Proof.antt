@@ -8,7 +8,9 @@ use Rattle.exports.proofs.metsroeb_icfl_breaks.Tie as tie
 
 -- both counts fit
 small-at : (c : tie.After-known-told) → (let found = c .before .found .given .0 in (found .0 ≤ mostLetters) × (found .1 .0 ≤ mostLetters))
-small-at c = breaks-small _ _ _ _ _ _ _ _ _ (rw (c .before .found .given .1) at (c .before .before .before .before .before .before .before .before .before .icfl-with-breaks .ensures))
+small-at c =
+    let at-call = c .before .before .before .before .before .before .before .before .before in
+    breaks-small _ _ _ _ _ _ _ _ _ (rw (c .before .found .given .1) at (at-call .icfl-with-breaks .ensures))
 
 icfl-with-breaks-requires : tie.Need-icfl-with-breaks-requires
 icfl-with-breaks-requires c κs = search needs
@@ -35,7 +37,9 @@ same-length-3 : tie.Need-same-length-3
 same-length-3 c = search needs
 
 returns : tie.Need-returns
-returns c = breaks-numbers _ _ _ _ _ _ _ _ (rw (c .before .found .given .1) at (c .before .before .before .before .before .before .before .before .before .icfl-with-breaks .ensures))
+returns c =
+    let at-call = c .before .before .before .before .before .before .before .before .before in
+    breaks-numbers _ _ _ _ _ _ _ _ (rw (c .before .found .given .1) at (at-call .icfl-with-breaks .ensures))
 
 same-length-4 : tie.Need-same-length-4
 same-length-4 c = search needs
@@ -47,7 +51,9 @@ same-length-6 : tie.Need-same-length-6
 same-length-6 c = search needs
 
 returns-2 : tie.Need-returns-2
-returns-2 c = breaks-numbers _ _ _ _ _ _ _ _ (rw (c .before .found2 .given .1) at (c .before .before .before .before .before .before .before .before .before .icfl-with-breaks .ensures))
+returns-2 c =
+    let at-call = c .before .before .before .before .before .before .before .before .before in
+    breaks-numbers _ _ _ _ _ _ _ _ (rw (c .before .found2 .given .1) at (at-call .icfl-with-breaks .ensures))
 
 pub metsroeb-icfl-breaks-spec : {M : Type 1} → statement M
 metsroeb-icfl-breaks-spec =

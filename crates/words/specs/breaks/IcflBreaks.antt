@@ -15,7 +15,24 @@ use Rattle.words.specs.declared.Break.{Break}
 use Rattle.words.specs.icfl.Failing.{failing-unique}
 use Rattle.words.specs.icfl.BorderLength.{step-is}
 use Rattle.words.specs.icfl.BoundedExtension.{extension-is}
-use Rattle.words.specs.breaks.BreakSteps.{Ended, kept, joined, First, first-factor, Steps, whole, step, step-inside, step-positive, step-ended, ended-same, ended-in, letters-rise, breaks-steps, steps-ends}
+use Rattle.words.specs.breaks.BreakSteps.{
+  Ended,
+  kept,
+  joined,
+  First,
+  first-factor,
+  Steps,
+  whole,
+  step,
+  step-inside,
+  step-positive,
+  step-ended,
+  ended-same,
+  ended-in,
+  letters-rise,
+  breaks-steps,
+  steps-ends,
+}
 
 -- ---- the places
 

@@ -108,8 +108,8 @@ returns-2 : tie.Need-returns-2
 returns-2 c =
     let at-room = c .before .before .before .before .before .before in
     let at-found = at-room .before .before .before .before .before .before in
-    breaks-refused _ _ _ _ (admitted-at (at-found .before .before)) (at-found .find-ends .ensures) (inside-at at-found .1) (c .before .before .before .clear .ensures)
-    (tried-at (at-room .before)) (at-room .match2 .keys2) (c .number2 .ensures)
+    breaks-refused _ _ _ _ (admitted-at (at-found .before .before)) (at-found .find-ends .ensures) (inside-at at-found .1)
+    (c .before .before .before .clear .ensures) (tried-at (at-room .before)) (at-room .match2 .keys2) (c .number2 .ensures)
 
 mul-copy : tie.Need-mul-copy
 mul-copy c = search needs
@@ -141,10 +141,16 @@ write-breaks-requires c κs =
     }
 
 mul-clear-2 : tie.Need-mul-clear-2
-mul-clear-2 c = omega (arith, inside-at (c .before .before .before .before .before .before .before .before .before .before .before .before .before .before .before .before .before .before .before))
+mul-clear-2 c =
+    let at-write = c .before .before .before .before in
+    let at-found = at-write .before .before .before .before .before .before .before .before .before .before .before .before .before .before .before in
+    omega (arith, inside-at at-found)
 
 clear-requires-2 : tie.Need-clear-requires-2
-clear-requires-2 c κs = omega (arith, inside-at (c .before .before .before .before .before .before .before .before .before .before .before .before .before .before .before .before .before .before .before))
+clear-requires-2 c κs =
+    let at-write = c .before .before .before .before in
+    let at-found = at-write .before .before .before .before .before .before .before .before .before .before .before .before .before .before .before in
+    omega (arith, inside-at at-found)
 
 same-length-2 : tie.Need-same-length-2
 same-length-2 c = search needs
