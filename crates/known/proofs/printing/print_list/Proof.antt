@@ -2,8 +2,8 @@
 use borrow.Author.Needs.{needs}
 use Prim.Native.Nat.{_-_}
 use lib.ListN.{length}
-use Rattle.known.proofs.print_list.Statement.{statement}
-use Rattle.known.proofs.print_list.Tie as tie
+use Rattle.known.proofs.printing.print_list.Statement.{statement}
+use Rattle.known.proofs.printing.print_list.Tie as tie
 
 abbrev Inv-loop : tie.InvT-loop
 Inv-loop list i₀ t3 i = Unit {0}

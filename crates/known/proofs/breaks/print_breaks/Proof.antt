@@ -1,7 +1,7 @@
 -- Safe and ending: the loop's measure is what is left.
 use borrow.Author.Needs.{needs}
-use Rattle.known.proofs.print_breaks.Statement.{statement}
-use Rattle.known.proofs.print_breaks.Tie as tie
+use Rattle.known.proofs.breaks.print_breaks.Statement.{statement}
+use Rattle.known.proofs.breaks.print_breaks.Tie as tie
 
 abbrev Inv-loop : tie.InvT-loop
 Inv-loop list count from₀ left₀ from left = Unit {0}

@@ -1,0 +1,76 @@
+//! What request 102 says of single records: the piece cut with its breaks.
+use super::printing::print_list;
+use super::printing::print_refusal;
+use checks::MOST;
+use icfl::CountedBreaks;
+use libc::STDOUT_FILENO;
+use naive::front;
+use naive::plus;
+
+// The five entries of a break from one on, where there are so many.
+fn print_break(list: &[u16], from: usize) {
+    if list.len() < 5 {
+        return;
+    }
+    if list.len() - 5 < from {
+        return;
+    }
+    io::write_all(STDOUT_FILENO, b"(");
+    print_list(&list[from..from + 5]);
+    io::write_all(STDOUT_FILENO, b")");
+}
+
+// So many breaks.
+fn print_breaks(list: &[u16], count: usize) {
+    let mut from: usize = 0;
+    let mut left = count;
+    while 0 < left {
+        print_break(list, from);
+        from = plus(from, 5);
+        left -= 1;
+    }
+}
+
+// The piece ends and the breaks, with so many entries lent for them as `ends` and `list` have.
+fn print_reasons(name: &[u8], word: &[u8], ends: &mut [u16], list: &mut [u16]) {
+    let mut work = [0u16; 3 * MOST];
+    io::write_all(STDOUT_FILENO, name);
+    match icfl::icfl_with_breaks(word, &mut work, ends, list) {
+        CountedBreaks::Counts { factors, breaks } => {
+            io::write_all(STDOUT_FILENO, b"pieces=");
+            print_list(front(ends, factors));
+            io::write_all(STDOUT_FILENO, b" breaks=");
+            print_breaks(list, breaks);
+        }
+        CountedBreaks::Refused(number) => print_refusal(number),
+    }
+    io::write_all(STDOUT_FILENO, b"\n");
+}
+
+/// The breaks of a shortest record that joins with nothing to spare, of one with a join inside another, and of a falling one.
+pub fn print_joins() {
+    let mut two = [0u16; 2];
+    let mut list = [0u16; 15];
+    let mut none = [0u16; 0];
+    let twice = b"cbabacaacbabaacbabacaacbabacbac";
+    print_reasons(b"baababb: ", b"baababb", &mut two, &mut list);
+    print_reasons(b"Joined twice: ", twice, &mut two, &mut list);
+    print_reasons(
+        b"F with no entry for breaks: ",
+        b"baba",
+        &mut two,
+        &mut none,
+    );
+}
+
+/// The breaks of I, with as many entries lent as it needs, and with one fewer for the ends or for the breaks.
+pub fn print_room_for_breaks() {
+    let word = b"cbabacaacbabacbac";
+    let mut two = [0u16; 2];
+    let mut one = [0u16; 1];
+    let mut ten = [0u16; 10];
+    let mut nine = [0u16; 9];
+    print_reasons(b"I with 2 and 10 entries: ", word, &mut two, &mut ten);
+    print_reasons(b"I with 1 and 10 entries: ", word, &mut one, &mut ten);
+    print_reasons(b"I with 2 and 9 entries: ", word, &mut two, &mut nine);
+}
