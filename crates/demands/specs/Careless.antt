@@ -1,7 +1,7 @@
--- THEOREMS about paper 01's careless cutters, in its order: the demand that shuts each of them out. Each is the library but for its piece cut. And any-stretch:
--- demand 3 would be false of stretches that are not whole pieces.
+-- THEOREMS about paper 01's careless cutters, in its order, and about two that give breaks (request 102): the demand that shuts each of them out. Each is the
+-- library but for one call. And any-stretch: demand 3 would be false of stretches that are not whole pieces.
 use mathlib.Core.Path.{_≡_, refl, ap, sym, _∙_}
-use mathlib.Core.List.{List, [], _∷_, _++_}
+use mathlib.Core.List.{List, [], _∷_, _++_, flatten}
 use Prim.Native.Nat.{ℕ, suc, _+_, _*_, _≤_, _<_}
 use native.Mathlib.Omega.{arith}
 use lib.ListN.{length, drop, getD, replicate, length-replicate}
@@ -12,7 +12,9 @@ use Rattle.words.specs.Words.{mostLetters, _≪_, sign}
 use Rattle.words.specs.Words as words
 use Rattle.words.specs.orders.MismatchLaws.{≪-asym}
 use Rattle.words.specs.orders.LexLaws.{≤ₗ-not-≪, <ₗ-≤ₗ}
-use Rattle.words.specs.Factorizations.{icflEnds, prefixLength}
+use Rattle.words.specs.Factorizations.{icflEnds, icflBreaks, prefixLength}
+use Rattle.words.specs.declared.Fate.the-variants.{Joined}
+use Rattle.words.specs.declared.Break.{Break}
 use Rattle.words.specs.Statements.{here, there, Compatible}
 use Rattle.words.specs.Examples.{a, b, c}
 use Rattle.buffers.specs.Buffers.{cleared, written}
@@ -21,7 +23,10 @@ use Rattle.checks.specs.Answers.{Filled}
 use Rattle.checks.specs.declared.Checked.the-variants.{Passed, Refused}
 use Rattle.checks.specs.declared.Counted.{Counted}
 use Rattle.checks.proofs.LineLaws.{not-both, all-pass}
-use Rattle.icfl.specs.Icfl.{icflAdmission, workAfter}
+use Rattle.fates.specs.Entries.{entriesOf}
+use Rattle.fates.proofs.EntryLaws.{length-entries}
+use Rattle.icfl.specs.Icfl.{icflAdmission, icflLines, workAfter}
+use Rattle.icfl.specs.declared.with_breaks.CountedBreaks.{CountedBreaks}
 use Rattle.compare.specs.declared.suffixes.Comparison.{Comparison}
 use Rattle.demands.specs.Demands.{Calls, library, Demand1, Demand2, Demand3}
 use Rattle.demands.specs.Meets.{Meets}
@@ -29,18 +34,27 @@ use Rattle.demands.specs.Meets.{Meets}
 abbrev Cut : Type 1
 Cut = (w work ends : List ℕ) (r : Counted) (work′ ends′ : List ℕ) → Type 0
 
--- the library with another piece cut
-abbrev cutter : Cut → Calls
-cutter cut = record {
+abbrev ReasonedCut : Type 1
+ReasonedCut = (w work ends breaks : List ℕ) (r : CountedBreaks) (work′ ends′ breaks′ : List ℕ) → Type 0
+
+-- the library with other piece cuts, without and with breaks
+abbrev cutters : Cut → ReasonedCut → Calls
+cutters cut reasoned = record {
   Test = library .Test;
   PieceCut = cut;
-  ReasonedCut = library .ReasonedCut;
+  ReasonedCut = reasoned;
   StrictCut = library .StrictCut;
   StartTable = library .StartTable;
   Comparing = library .Comparing;
   Reading = library .Reading;
   Summing = library .Summing;
 }
+
+abbrev cutter : Cut → Calls
+cutter cut = cutters cut (library .ReasonedCut)
+
+abbrev reasoner : ReasonedCut → Calls
+reasoner reasoned = cutters (library .PieceCut) reasoned
 
 -- ---- cutters that are right but for the ends, which are f w
 
@@ -131,6 +145,68 @@ pub refused-by-0 : ¬ Demand1 (cutter (Answering (λ w work entries. Counted.Ref
 refused-by-0 d =
     let z : 0 < 0 = d .pieceCut [] [] [] [] [] (Counted.Refused 0) (refl, refl, refl) .0 .positive 0 refl in
     omega arith
+
+-- ---- cuts with breaks that are right but for the breaks, which are f w, or for the lines under which the ends are written
+
+abbrev reasonedLines : (List ℕ → List Break) → List ℕ → (work ends breaks : ℕ) → List Line
+reasonedLines f w work ends breaks = icflLines w work ends ++ resultLine breaks (5 * length (f w)) ∷ []
+
+pub record ReasonsBy (f : List ℕ → List Break) (endLines : List ℕ → (work ends breaks : ℕ) → List Line) (w work ends breaks : List ℕ) (r : CountedBreaks)
+    (work′ ends′ breaks′ : List ℕ) : Type 0 where
+  pub answer : r ≡ CountedBreaks.Counts (length (icflEnds w)) (length (f w)) unless reasonedLines f w (length work) (length ends) (length breaks)
+      then CountedBreaks.Refused
+  pub ends-are : ends′ ≡ written (icflEnds w) ends unless endLines w (length work) (length ends) (length breaks) then (λ number. ends)
+  pub breaks-are : breaks′ ≡ written (entriesOf (f w)) breaks unless reasonedLines f w (length work) (length ends) (length breaks) then (λ number. breaks)
+  pub worked : work′ ≡ cleared (3 * length w) work unless reasonedLines f w (length work) (length ends) (length breaks) then workAfter (3 * length w) work
+
+-- "A short buffer for them is met by refusal 4, once the ends have been found to fit": one that has written the ends by then
+pub ends-before-breaks-fit : ¬ Demand1 (reasoner (ReasonsBy icflBreaks (λ w work ends breaks. icflLines w work ends)))
+unfolding tried icflEnds icflBreaks
+ends-before-breaks-fit d =
+    let told = d .reasonedCut (a ∷ b ∷ []) (replicate 6 0) (0 ∷ 0 ∷ []) [] (replicate 6 0) (1 ∷ 2 ∷ []) [] (CountedBreaks.Refused 4)
+    (record { answer = refl; ends-are = refl; breaks-are = refl; worked = refl }) in
+    let z : _≡_ {A = ℕ} 1 0 = ap (λ (t : List ℕ). getD t 0 0) (told .1 4 refl) in
+    omega arith
+
+-- demand 2 shuts out every one whose breaks are not the factorization's
+pub other-breaks : (f : List ℕ → List Break) (w : List ℕ) → 1 ≤ length w → length w ≤ mostLetters → ¬ (entriesOf (f w) ≡ entriesOf (icflBreaks w))
+    → ¬ Demand2 (reasoner (ReasonsBy f (reasonedLines f))) w
+other-breaks f w s l n d =
+    let work : List ℕ = replicate (3 * length w) 0 in
+    let ends : List ℕ = replicate (length (icflEnds w)) 0 in
+    let breaks : List ℕ = replicate (5 * length (f w)) 0 in
+    let size-work : length work ≡ 3 * length w = length-replicate (3 * length w) 0 in
+    let size-ends : length ends ≡ length (icflEnds w) = length-replicate (length (icflEnds w)) 0 in
+    let size-breaks : length breaks ≡ 5 * length (f w) = length-replicate (5 * length (f w)) 0 in
+    let none : tried (reasonedLines f w (length work) (length ends) (length breaks)) ≡ Passed
+    = all-pass (reasonedLines f w (length work) (length ends) (length breaks)) (
+      ne-eqb (length w) 0 (λ z. omega arith),
+      (
+        le-ltb mostLetters (length w) l,
+        (
+          le-ltb (length work) (3 * length w) (omega (arith, size-work)),
+          (
+            le-ltb (length ends) (length (icflEnds w)) (omega (arith, size-ends)),
+            (le-ltb (length breaks) (5 * length (f w)) (omega (arith, size-breaks)), search),
+          ),
+        ),
+      ),
+    ) in
+    let cut : ReasonsBy f (reasonedLines f) w work ends breaks (CountedBreaks.Counts (length (icflEnds w)) (length (f w)))
+    (cleared (3 * length w) work) (written (icflEnds w) ends) (written (entriesOf (f w)) breaks) =
+    record { answer = rw none refl; ends-are = rw none refl; breaks-are = rw none refl; worked = rw none refl } in
+    let gave = d .reasons work ends breaks _ _ _ _ cut refl in
+    let same : length (icflBreaks w) ≡ length (f w) = sym cc in
+    let front = take-at (entriesOf (f w)) (drop (length (entriesOf (f w))) breaks) (5 * length (f w)) (length-entries (f w)) in
+    n (sym front ∙ (rw same at (gave .breaks)))
+
+-- "take the shortest such r": one that takes the longest, which is `a` for `aaab`, so that a first break lies at 2
+pub longest-border : (f : List ℕ → List Break) (bs : List Break)
+    → f (a ∷ a ∷ a ∷ b ∷ []) ≡ record { place = 2; begun = 0; border = 1; fate = Joined 0 } ∷ bs
+    → ¬ Demand2 (reasoner (ReasonsBy f (reasonedLines f))) (a ∷ a ∷ a ∷ b ∷ [])
+unfolding icflBreaks flatten
+longest-border f bs x = other-breaks f (a ∷ a ∷ a ∷ b ∷ []) (omega arith) (omega arith)
+    (λ e. let z : _≡_ {A = ℕ} 2 3 = ap (λ (t : List ℕ). getD t 0 0) (rw x at e) in omega arith)
 
 -- ---- demand 3 shuts out ends that are not the factorization's, too
 
