@@ -1,7 +1,6 @@
 # Prints, from the lines of all placements (call, record, length, nanoseconds of the verified call and of the peer's), the times of each
 # call to the file `tables`, and to standard output the ratios beside their bars. A ratio above its bar is marked; the exit status is then 1,
-# unless that is known. With `bar` set it is the bar of every row, and an earlier archive stands in the peer's place. Each placement ran
-# `rounds` times.
+# unless that is known. With `bar` set it is the bar of every row, and an earlier archive stands in the peer's place.
 function number(ns,    digits, text) {
     if (ns < 100) return sprintf("%.1f", ns)
     digits = sprintf("%.0f", ns)
@@ -36,7 +35,7 @@ BEGIN {
     print "# Times\n" > tables
     print "Written by `bench/run`; [docs/BENCHMARKS.md](../docs/BENCHMARKS.md) says how they are taken. Nanoseconds of a call," > tables
     other = bar == "" ? "peer" : "earlier"
-    print "verified / " other " = ratio, marked where it is above its bar. Each number is the least of " 4 * rounds " medians, " rounds " for each" > tables
+    print "verified / " other " = ratio, marked where it is above its bar. Each number is the least of 48 medians, twelve for each" > tables
     print "of four placements of the code in memory; a median is of 25 batches, verified and " other " in alternation. Growth: of the" > tables
     print "verified call's time, from each length to the next." > tables
 }
