@@ -1,7 +1,10 @@
 /* Metsroeb: the canonical inverse Lyndon factorization (ICFL) of a record, and what belongs to it.
  *
- * A record is a word of 1 to 4,096 bytes; all 256 values are ordinary letters. Places count from 0; an end is the
- * place just past the last byte. Every function returns (metsroeb_summarize: holds) a refusal number, 0 for a result.
+ * A record is a word of 1 to 4,096 bytes. Byte 255 is a mark, all other values are ordinary letters. Each mark is a
+ * factor of both cuts by itself, with 1 in the start table; each nonempty stretch between neighbouring marks or the
+ * record's edges is cut as a record by itself. The comparison takes 255 for the largest letter, the test refuses it.
+ * Places count from 0; an end is the place just past the last byte. Every function returns (metsroeb_summarize: holds)
+ * a refusal number, 0 for a result.
  *
  * The caller ensures, for every function:
  *   - every pointer is valid and not null, also where its length is 0, and aligned for its type;
@@ -22,6 +25,7 @@
  *   6  compare     start or other is below first, or not below end
  *   7  factor, summarize   ends is empty, begins with 0, does not rise strictly, or its last end is not record_len
  *   8  factor      number is not below ends_len
+ *   9  test        the record holds a mark
  *
  * Beside a refusal the numbers written through pointers are 0, and every buffer is as it was; only icfl and icfl_breaks
  * refused by 4 have cleared their work buffer as after a result. Entries past those that a function is said to write
@@ -51,23 +55,24 @@ typedef struct {
 /* The test. An inverse Lyndon record (nonempty, greater than each nonempty proper suffix): 0 in all three numbers.
  * Otherwise *failing is the length L of the shortest prefix that is not inverse Lyndon, *border the length of the
  * shortest r with which that prefix is r a u r b, a < b, and *prefix = L - *border - 1, the length of p.
- * work: at least record_len entries; after a result the first record_len are 0. Refusals 1, 2, 3. */
+ * work: at least record_len entries; after a result the first record_len are 0. Refusals 1, 2, 3, 9. */
 uint8_t metsroeb_test(const uint8_t *record, size_t record_len, uint16_t *work, size_t work_len,
                       uint16_t *failing, uint16_t *prefix, uint16_t *border);
 
-/* The piece cut, ICFL: writes the ends of the factors to ends, from entry 0, and their number to *count.
- * record_len entries of ends are always enough.
+/* The piece cut, ICFL: writes the ends of the factors to ends, from entry 0, and their number to *count. A mark is a
+ * factor; a stretch is cut by itself, its ends in the record's places. record_len entries of ends are always enough.
  * work: at least 3 * record_len entries; after a result and after refusal 4 the first 3 * record_len are 0.
  * Refusals 1, 2, 3, 4. */
 uint8_t metsroeb_icfl(const uint8_t *record, size_t record_len, uint16_t *work, size_t work_len,
                       uint16_t *ends, size_t ends_len, uint16_t *count);
 
 /* The piece cut with its breaks: writes ends and *count as icfl does, and to breaks, from entry 0 and from left to
- * right, every break that the cut considered, their number to *break_count. A step of the cut begins at 0 or at the
- * break before it and tests the record from there on; if that fails, the break is where the test's p ends. It fills
- * five entries: this place; the place where the step began; |r|; then, for a break that was kept, the bytes a and b,
- * which lie |r| past where the step began and |r| past the break; for one that was joined, 256 and |r| less the length
- * of the factor that was joined to p. The places that were kept, and record_len, are the ends.
+ * right, every break that the cut considered, their number to *break_count. A step of the cut begins where a stretch
+ * does or at the break before it and tests the stretch from there on; if that fails, the break is where the test's p
+ * ends. It fills five entries: this place; the place where the step began; |r|; then, for a break that was kept, the
+ * bytes a and b, which lie |r| past where the step began and |r| past the break; for one that was joined, 256 and |r|
+ * less the length of the factor that was joined to p. All places are the record's. The ends are the places that were
+ * kept, and the ends of marks and of stretches, which have no break.
  * 5 * record_len entries of breaks are always enough; an inverse Lyndon record has no break and needs none.
  * work: as for icfl. Refusals 1, 2, 3, 4 for ends, 4 for breaks; after either 4 both are as they were. */
 uint8_t metsroeb_icfl_breaks(const uint8_t *record, size_t record_len, uint16_t *work, size_t work_len,
@@ -75,18 +80,19 @@ uint8_t metsroeb_icfl_breaks(const uint8_t *record, size_t record_len, uint16_t 
                              uint16_t *count, uint16_t *break_count);
 
 /* The strict cut, the Lyndon factorization in the inverse order (its factors are anti-Lyndon words): writes the ends
- * of the factors to ends, from entry 0, and their number to *count. record_len entries are always enough.
- * Refusals 1, 2, 4. */
+ * of the factors to ends, from entry 0, and their number to *count. A mark is a factor; a stretch is cut by itself, its
+ * ends in the record's places. record_len entries are always enough. Refusals 1, 2, 4. */
 uint8_t metsroeb_cfl_in(const uint8_t *record, size_t record_len, uint16_t *ends, size_t ends_len, uint16_t *count);
 
 /* The start table: writes to lengths, for each place of the record from entry 0, the length of the longest anti-Lyndon
- * word that starts there, and record_len to *count. Refusals 1, 2, 4. */
+ * word that starts there within its stretch, 1 for a mark, and record_len to *count. Refusals 1, 2, 4. */
 uint8_t metsroeb_lyndon_table(const uint8_t *record, size_t record_len, uint16_t *lengths, size_t lengths_len,
                               uint16_t *count);
 
 /* The comparison, in the inverse order, of the words from start to end and from other to end: *sign is -1 if the one
  * at start comes first, 0 if the starts are equal, 1 otherwise. In this order a proper prefix comes first, and
- * at a first difference the larger byte. The range is first to end, of any part of the record. Refusals 1, 2, 5, 6. */
+ * at a first difference the larger byte; 255 is the largest. The range is first to end, of any part of the record.
+ * Refusals 1, 2, 5, 6. */
 uint8_t metsroeb_compare(const uint8_t *record, size_t record_len, size_t first, size_t end, size_t start, size_t other,
                          int8_t *sign);
 

@@ -4,10 +4,11 @@ use metsroeb_tests::words::{fibonacci_word, Random};
 /// A kind of record: its name, how many different records of it take turns, and what makes one from a length and its number.
 pub type Input = (&'static str, usize, fn(usize, usize) -> Vec<u8>);
 
-/// Random records take turns, so that no branch predictor knows them by heart.
-pub const INPUTS: [Input; 9] = [
+/// Random records take turns, so that no branch predictor knows them by heart. Marks are in those records alone that name them; an
+/// earlier archive that has no marks is not timed on these, since it does other work there.
+pub const INPUTS: &[Input] = &[
     ("random, 2 letters", 64, |n, k| random(n, k, 2)),
-    ("random, 256 letters", 64, |n, k| random(n, k, 256)),
+    ("random, 255 letters", 64, |n, k| random(n, k, 255)),
     ("a^n", 1, |n, _| vec![b'a'; n]),
     ("(ba)^(n/2)", 1, |n, _| b"ba".repeat(n / 2)),
     ("Fibonacci", 1, |n, _| fibonacci_word(b'b', b'a', n)),
@@ -17,11 +18,21 @@ pub const INPUTS: [Input; 9] = [
         word[n - 1] = b'b';
         word
     }),
-    ("falling ramp", 1, |n, _| (0..n).map(|i| (255 - i * 256 / n) as u8).collect()),
+    ("falling ramp", 1, |n, _| (0..n).map(|i| (254 - i * 255 / n) as u8).collect()),
     ("rising plateaus", 1, |n, _| (0..n).map(|i| (i * 64 / n) as u8).collect()),
     ("a^(n-1) b", 1, |n, _| {
         let mut word = vec![b'a'; n];
         word[n - 1] = b'b';
+        word
+    }),
+    #[cfg(has = "marks")]
+    ("marks", 1, |n, _| vec![255; n]),
+    #[cfg(has = "marks")]
+    ("a and a mark in turn", 1, |n, _| b"a\xff".repeat(n / 2)),
+    #[cfg(has = "marks")]
+    ("random, 2 letters, a mark in the middle", 64, |n, k| {
+        let mut word = random(n, k, 2);
+        word[n / 2] = 255;
         word
     }),
 ];

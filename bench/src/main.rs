@@ -148,7 +148,7 @@ fn main() {
     black_box(metsroeb_bench_pad as *const ());
     let wanted = std::env::args().nth(1).unwrap_or_default();
     for (name, sides) in pairs().into_iter().filter(|(name, _)| name.contains(&wanted)) {
-        for input in INPUTS {
+        for &input in INPUTS {
             for (n, (verified, other)) in LENGTHS.into_iter().zip(measure(sides, input)) {
                 println!("{name}\t{}\t{n}\t{verified:.2}\t{other:.2}", input.0);
             }

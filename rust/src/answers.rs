@@ -17,13 +17,13 @@ pub enum Extension {
     },
 }
 
-/// A break that the piece cut considered. Of the record from `begun` on, the shortest prefix that is not inverse Lyndon is
-/// r a u r b, a < b, with the shortest r; p is that prefix without its last |r| + 1 letters.
+/// A break that the piece cut considered. Of the stretch from `begun` on, the shortest prefix that is not inverse Lyndon is
+/// r a u r b, a < b, with the shortest r; p is that prefix without its last |r| + 1 letters. A record without marks is one stretch.
 #[derive(Clone, Copy, Debug, PartialEq, Eq)]
 pub struct Break {
     /// Where p ends.
     pub place: u16,
-    /// Where the step began: at the break before, the first one at 0.
+    /// Where the step began: at the break before it in its stretch, the first one where the stretch begins.
     pub begun: u16,
     /// |r|.
     pub border: u16,
@@ -31,7 +31,7 @@ pub struct Break {
     pub fate: Fate,
 }
 
-/// What became of a break: by the first factor of the cut of what follows it.
+/// What became of a break: by the first factor of the cut of what follows it in its stretch.
 #[derive(Clone, Copy, Debug, PartialEq, Eq)]
 pub enum Fate {
     /// That factor is longer than |r|: a factor ends here. The letters a, at `begun` + |r|, and b, at `place` + |r|.

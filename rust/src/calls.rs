@@ -8,10 +8,11 @@ use core::cmp::Ordering;
 
 /// The test: whether the record is inverse Lyndon, and if not, where and how it fails.
 ///
-/// `work` needs as many entries as the record has bytes; after a result these are 0.
+/// `work` needs as many entries as the record has bytes; after a result these are 0. A record that holds a mark, the byte 255, is
+/// refused.
 ///
 /// Refusals: [`EMPTY_RECORD`](Refusal::EMPTY_RECORD), [`LONG_RECORD`](Refusal::LONG_RECORD),
-/// [`SHORT_WORK`](Refusal::SHORT_WORK).
+/// [`SHORT_WORK`](Refusal::SHORT_WORK), [`MARKED_RECORD`](Refusal::MARKED_RECORD).
 ///
 /// ```
 /// use metsroeb::{find_extension, Extension, Refusal};
@@ -21,6 +22,7 @@ use core::cmp::Ordering;
 /// assert_eq!(find_extension(b"cbabacbac", &mut work), Ok(found));
 /// assert_eq!(find_extension(b"baba", &mut work), Ok(Extension::InverseLyndon));
 /// assert_eq!(find_extension(b"cbabacbac", &mut work[1..]), Err(Refusal::SHORT_WORK));
+/// assert_eq!(find_extension(b"ba\xffba", &mut work), Err(Refusal::MARKED_RECORD));
 /// ```
 #[inline]
 pub fn find_extension(record: &[u8], work: &mut [u16]) -> Result<Extension, Refusal> {
@@ -34,7 +36,8 @@ pub fn find_extension(record: &[u8], work: &mut [u16]) -> Result<Extension, Refu
     })
 }
 
-/// The piece cut, ICFL: the ends of the factors, which are the part of `ends` that was filled, from its first entry on.
+/// The piece cut, ICFL: the ends of the factors, which are the part of `ends` that was filled, from its first entry on. A mark, the
+/// byte 255, is a factor of its own; each nonempty stretch between marks is cut as a record by itself.
 ///
 /// As many entries of `ends` as the record has bytes are always enough. `work` needs three times as many; after a result,
 /// and after [`SHORT_RESULT`](Refusal::SHORT_RESULT), these are 0.
@@ -48,6 +51,7 @@ pub fn find_extension(record: &[u8], work: &mut [u16]) -> Result<Extension, Refu
 /// let (mut work, mut ends) = ([0; 27], [0; 2]);
 /// assert_eq!(icfl(b"cbabacbac", &mut work, &mut ends)?, [5, 9]);
 /// assert_eq!(icfl(b"cbabacbac", &mut work, &mut ends[..1]), Err(Refusal::SHORT_RESULT));
+/// assert_eq!(icfl(b"ba\xffba", &mut work, &mut [0; 5])?, [2, 3, 5]);
 /// # Ok::<(), Refusal>(())
 /// ```
 #[inline]
@@ -68,7 +72,8 @@ pub fn icfl<'a>(record: &[u8], work: &mut [u16], ends: &'a mut [u16]) -> Result<
 }
 
 /// The piece cut with its breaks: the ends of the factors, as [`icfl`] gives them, and every [`Break`](crate::Break) that the cut
-/// considered, from left to right. The places of those that were kept and the record's length are the ends.
+/// considered, stretch by stretch from left to right, in the record's places. Marks and the last factors of stretches end
+/// without a break: the ends are theirs, and the places of the breaks that were kept.
 ///
 /// A break fills five entries of `breaks`. Five times as many as the record has bytes are always enough, and an inverse Lyndon
 /// record, which has no break, needs none. `ends` and `work` are as for [`icfl`]; after
@@ -118,7 +123,7 @@ pub fn icfl_with_breaks<'a>(
 
 /// The strict cut, the Lyndon factorization in the inverse order: the ends of its factors, which are anti-Lyndon words. They
 /// are the part of `ends` that was filled, from its first entry on. As many entries as the record has bytes are always
-/// enough.
+/// enough. A mark, the byte 255, is a factor of its own; each nonempty stretch between marks is cut as a record by itself.
 ///
 /// Refusals: [`EMPTY_RECORD`](Refusal::EMPTY_RECORD), [`LONG_RECORD`](Refusal::LONG_RECORD),
 /// [`SHORT_RESULT`](Refusal::SHORT_RESULT).
@@ -126,6 +131,7 @@ pub fn icfl_with_breaks<'a>(
 /// ```
 /// let mut ends = [0; 9];
 /// assert_eq!(metsroeb::cfl_in(b"cbabacbac", &mut ends)?, [5, 8, 9]);
+/// assert_eq!(metsroeb::cfl_in(b"\xff\xffa", &mut ends)?, [1, 2, 3]);
 /// # Ok::<(), metsroeb::Refusal>(())
 /// ```
 #[inline]
@@ -136,7 +142,8 @@ pub fn cfl_in<'a>(record: &[u8], ends: &'a mut [u16]) -> Result<&'a [u16], Refus
 }
 
 /// The start table: for each place of the record the length of the longest anti-Lyndon word that starts there. It is the part
-/// of `lengths` that was filled, as many entries as the record has bytes, from the first entry on.
+/// of `lengths` that was filled, as many entries as the record has bytes, from the first entry on. A mark, the byte 255, has 1, and
+/// such a word of another place ends before the next mark.
 ///
 /// Refusals: [`EMPTY_RECORD`](Refusal::EMPTY_RECORD), [`LONG_RECORD`](Refusal::LONG_RECORD),
 /// [`SHORT_RESULT`](Refusal::SHORT_RESULT).
@@ -144,6 +151,7 @@ pub fn cfl_in<'a>(record: &[u8], ends: &'a mut [u16]) -> Result<&'a [u16], Refus
 /// ```
 /// let mut lengths = [0; 9];
 /// assert_eq!(metsroeb::lyndon_table(b"cbabacbac", &mut lengths)?, [5, 2, 1, 2, 1, 3, 2, 1, 1]);
+/// assert_eq!(metsroeb::lyndon_table(b"ba\xffba", &mut lengths)?, [2, 1, 1, 2, 1]);
 /// # Ok::<(), metsroeb::Refusal>(())
 /// ```
 #[inline]
@@ -158,8 +166,8 @@ pub fn lyndon_table<'a>(record: &[u8], lengths: &'a mut [u16]) -> Result<&'a [u1
 /// The comparison, in the inverse order, of the words from `start` to `end` and from `other` to `end`: `Less` if the one at
 /// `start` comes first, `Equal` if the starts are equal, `Greater` otherwise.
 ///
-/// In this order a proper prefix comes first, and at a first difference the larger byte. The range is `first` to `end`, of any
-/// part of the record.
+/// In this order a proper prefix comes first, and at a first difference the larger byte; 255 is the largest. The range is `first` to
+/// `end`, of any part of the record.
 ///
 /// Refusals: [`EMPTY_RECORD`](Refusal::EMPTY_RECORD), [`LONG_RECORD`](Refusal::LONG_RECORD),
 /// [`BAD_RANGE`](Refusal::BAD_RANGE), [`BAD_START`](Refusal::BAD_START).

@@ -2,7 +2,8 @@
 use core::fmt::{self, Display, Formatter};
 use core::num::NonZeroU8;
 
-/// Why a call was refused: the number of the first line of paper 01's table that is met. It prints the line's condition.
+/// Why a call was refused: the number of the first line of the table that is met, which is paper 01's with those of the requests.
+/// It prints the line's condition.
 ///
 /// ```
 /// use metsroeb::Refusal;
@@ -35,6 +36,8 @@ impl Refusal {
     pub const BAD_ENDS: Refusal = Refusal::line(7);
     /// Reader: the factor's number is not below the number of ends.
     pub const BAD_NUMBER: Refusal = Refusal::line(8);
+    /// Test, after [`SHORT_WORK`](Refusal::SHORT_WORK): the record holds a mark, the byte 255.
+    pub const MARKED_RECORD: Refusal = Refusal::line(9);
 
     const fn line(number: u8) -> Refusal {
         match NonZeroU8::new(number) {
@@ -75,6 +78,7 @@ impl Refusal {
             6 => "a start is below the first place, or not below the end",
             7 => "the list of ends is empty, its first end is 0, it is not strictly rising, or its last end is not the length",
             8 => "the piece number is not below the number of ends",
+            9 => "the record holds a mark (test)",
             _ => "no line of the table that this crate knows",
         }
     }

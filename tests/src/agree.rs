@@ -1,13 +1,15 @@
 //! One call on guarded buffers against the promise. Each function panics at the first difference.
 use crate::lent::Lent;
+use crate::reference::SEPARATOR;
 use crate::words::Random;
 use crate::{promise, reference, Calls, Filling, PEER};
 use metsroeb::{Break, Extension, Refusal};
 use std::fmt::Debug;
 
-/// The right answers for a word.
+/// The right answers for a record.
 pub struct Answers {
-    pub extension: Extension,
+    /// None where it holds a mark: the test is refused.
+    pub extension: Option<Extension>,
     pub icfl: Vec<u16>,
     pub breaks: Vec<Break>,
     pub cfl_in: Vec<u16>,
@@ -16,18 +18,13 @@ pub struct Answers {
 
 impl Answers {
     /// For a record that is refused: none is looked at.
-    pub const NONE: Answers = Answers {
-        extension: Extension::InverseLyndon,
-        icfl: Vec::new(),
-        breaks: Vec::new(),
-        cfl_in: Vec::new(),
-        lyndon_table: Vec::new(),
-    };
+    pub const NONE: Answers =
+        Answers { extension: None, icfl: Vec::new(), breaks: Vec::new(), cfl_in: Vec::new(), lyndon_table: Vec::new() };
 
     pub fn by_definition(word: &[u8]) -> Answers {
         let (icfl, breaks) = reference::icfl_with_breaks(word);
         Answers {
-            extension: reference::find_extension(word),
+            extension: (!word.contains(&SEPARATOR)).then(|| reference::find_extension(word)),
             icfl,
             breaks,
             cfl_in: reference::cfl_in(word),
@@ -40,7 +37,7 @@ impl Answers {
         let n = word.len();
         let (mut work, mut result, mut breaks) = (vec![0; 3 * n], vec![0; n], vec![0; 5 * n]);
         Answers {
-            extension: (PEER.find_extension)(word, &mut work).unwrap(),
+            extension: (PEER.find_extension)(word, &mut work).ok(),
             icfl: (PEER.icfl)(word, &mut work, &mut result).unwrap().to_vec(),
             breaks: (PEER.icfl_with_breaks)(word, &mut work, &mut result, &mut breaks).unwrap().1.collect(),
             cfl_in: (PEER.cfl_in)(word, &mut result).unwrap().to_vec(),
@@ -75,7 +72,7 @@ pub fn find_extension(calls: &Calls, word: &[u8], answers: &Answers, work_len: u
     let mut work = Lent::entries(work_len, random);
     let (record_before, mut work_after) = (record.clone(), work.clone());
     let got = (calls.find_extension)(record.part(), work.part());
-    same(&what, got, promise::find_extension(word.len(), answers.extension, work_after.part()));
+    same(&what, got, promise::find_extension(word, answers.extension, work_after.part()));
     work.expect(&work_after, &what);
     record.expect(&record_before, &what);
 }

@@ -1,7 +1,7 @@
-//! Paper 01's table of refusals, and what each call does to its buffers. Each function is given the right answer to its call, takes
+//! Paper 01's table of refusals with the requests' lines, and what each call does to its buffers. Each function is given the right answer to its call, takes
 //! the buffers as they were before it, and leaves them as they have to be after it. It gives the right answer, or the number of
 //! the refusal.
-use crate::reference::{factors, inverse_order, summary};
+use crate::reference::{factors, inverse_order, summary, SEPARATOR};
 use metsroeb::{Break, Extension, Fate, Summary};
 use std::cmp::Ordering;
 
@@ -25,11 +25,13 @@ fn ends_of(length: usize, ends: &[u16]) -> Result<(), u8> {
     refuse(7, ends[ends.len() - 1] != length)
 }
 
-pub fn find_extension(length: usize, answer: Extension, work: &mut [u16]) -> Result<Extension, u8> {
-    record(length)?;
-    refuse(3, work.len() < length)?;
-    work[..length].fill(0);
-    Ok(answer)
+/// There is no answer where the record holds a mark.
+pub fn find_extension(word: &[u8], answer: Option<Extension>, work: &mut [u16]) -> Result<Extension, u8> {
+    record(word.len())?;
+    refuse(3, work.len() < word.len())?;
+    refuse(9, word.contains(&SEPARATOR))?;
+    work[..word.len()].fill(0);
+    Ok(answer.expect("no mark"))
 }
 
 pub fn icfl<'a>(length: usize, answer: &'a [u16], work: &mut [u16], ends: &mut [u16]) -> Result<&'a [u16], u8> {

@@ -1,6 +1,20 @@
-//! The answers, by paper 01's definitions and nothing else: for short words.
+//! The answers, by paper 01's definitions and request 103's sentences and nothing else: for short records.
 use metsroeb::{Break, Extension, Fate, Summary};
 use std::cmp::Ordering;
+
+/// The byte that is a mark, and no level.
+pub const SEPARATOR: u8 = 255;
+
+/// The stretches between neighbouring marks or the record's edges, from left to right, each with its first place. Some may be
+/// empty. All but the first follow a mark.
+fn stretches(record: &[u8]) -> impl Iterator<Item = (usize, &[u8])> {
+    let mut next = 0;
+    record.split(|&letter| letter == SEPARATOR).map(move |stretch| {
+        let from = next;
+        next += stretch.len() + 1;
+        (from, stretch)
+    })
+}
 
 /// The inverse order: a proper prefix comes first, and at a first difference the larger byte.
 pub fn inverse_order(x: &[u8], y: &[u8]) -> Ordering {
@@ -26,7 +40,8 @@ pub fn is_anti_lyndon(word: &[u8]) -> bool {
     !word.is_empty() && (1..word.len()).all(|i| inverse_order(word, &word[i..]) == Ordering::Less)
 }
 
-/// L is the shortest nonempty prefix that is not inverse Lyndon; it is r a u r b with a < b and the shortest r.
+/// Of a word without marks: L is the shortest nonempty prefix that is not inverse Lyndon; it is r a u r b with a < b and the
+/// shortest r.
 pub fn find_extension(word: &[u8]) -> Extension {
     let Some(failing) = (1..=word.len()).find(|&l| !is_inverse_lyndon(&word[..l])) else { return Extension::InverseLyndon };
     let last = failing - 1;
@@ -36,8 +51,8 @@ pub fn find_extension(word: &[u8]) -> Extension {
     Extension::Failing { failing, prefix: last - border, border }
 }
 
-/// The piece cut, by its recursion, of the word that begins at the place `begun` of a record: the lengths of the pieces, and the
-/// breaks in the record's places.
+/// The piece cut, by its recursion, of a word without marks that begins at the place `begun` of a record: the lengths of the
+/// pieces, and the breaks in the record's places.
 fn pieces(word: &[u8], begun: usize) -> (Vec<usize>, Vec<Break>) {
     let Extension::Failing { prefix, border, .. } = find_extension(word) else { return (vec![word.len()], vec![]) };
     let place = begun + prefix;
@@ -54,38 +69,55 @@ fn pieces(word: &[u8], begun: usize) -> (Vec<usize>, Vec<Break>) {
     (pieces, breaks)
 }
 
-/// The ends of the piece cut, and its breaks.
-pub fn icfl_with_breaks(word: &[u8]) -> (Vec<u16>, Vec<Break>) {
-    let (pieces, breaks) = pieces(word, 0);
-    let mut end = 0;
-    let ends = pieces.into_iter().map(|length| {
-        end += length;
-        end as u16
-    });
-    (ends.collect(), breaks)
+/// The ends of the piece cut, and its breaks: each mark is a piece, each nonempty stretch is cut as a record by itself.
+pub fn icfl_with_breaks(record: &[u8]) -> (Vec<u16>, Vec<Break>) {
+    let (mut ends, mut breaks) = (Vec::new(), Vec::new());
+    for (mut end, stretch) in stretches(record) {
+        if end > 0 {
+            ends.push(end as u16);
+        }
+        if stretch.is_empty() {
+            continue;
+        }
+        let (pieces, considered) = pieces(stretch, end);
+        ends.extend(pieces.into_iter().map(|length| {
+            end += length;
+            end as u16
+        }));
+        breaks.extend(considered);
+    }
+    (ends, breaks)
 }
 
 /// The ends of the piece cut.
-pub fn icfl(word: &[u8]) -> Vec<u16> {
-    icfl_with_breaks(word).0
+pub fn icfl(record: &[u8]) -> Vec<u16> {
+    icfl_with_breaks(record).0
 }
 
-/// Whether the list of ends divides the word into anti-Lyndon words, each equal to the next or after it in the inverse order.
-pub fn is_cfl_in(word: &[u8], ends: &[u16]) -> bool {
+/// Whether the list of ends divides the record into marks and anti-Lyndon words without marks, each of these equal to the next or
+/// after it in the inverse order, where neither is a mark.
+pub fn is_cfl_in(record: &[u8], ends: &[u16]) -> bool {
     let starts = [0].iter().chain(ends);
-    let parts: Vec<&[u8]> = starts.zip(ends).map(|(&from, &to)| &word[from as usize..to as usize]).collect();
-    ends.last().copied().unwrap_or(0) as usize == word.len()
-        && parts.iter().all(|part| is_anti_lyndon(part))
-        && parts.windows(2).all(|pair| inverse_order(pair[0], pair[1]) != Ordering::Less)
+    let parts: Vec<&[u8]> = starts.zip(ends).map(|(&from, &to)| &record[from as usize..to as usize]).collect();
+    let is_mark = |part: &[u8]| part == [SEPARATOR];
+    ends.last().copied().unwrap_or(0) as usize == record.len()
+        && parts.iter().all(|part| is_mark(part) || !part.contains(&SEPARATOR) && is_anti_lyndon(part))
+        && parts.windows(2).all(|pair| is_mark(pair[0]) || is_mark(pair[1]) || inverse_order(pair[0], pair[1]) != Ordering::Less)
 }
 
-/// The ends of the strict cut. Its first factor is the longest anti-Lyndon prefix; `is_cfl_in` says whether that is right.
-pub fn cfl_in(word: &[u8]) -> Vec<u16> {
+/// The ends of the strict cut: of each mark, and of the longest anti-Lyndon prefix of what is left of a stretch. `is_cfl_in` says
+/// whether that is right.
+pub fn cfl_in(record: &[u8]) -> Vec<u16> {
     let mut ends = Vec::new();
-    let mut from = 0;
-    while from < word.len() {
-        from += longest_anti_lyndon(&word[from..]);
-        ends.push(from as u16);
+    for (from, stretch) in stretches(record) {
+        if from > 0 {
+            ends.push(from as u16);
+        }
+        let mut cut = 0;
+        while cut < stretch.len() {
+            cut += longest_anti_lyndon(&stretch[cut..]);
+            ends.push((from + cut) as u16);
+        }
     }
     ends
 }
@@ -94,9 +126,16 @@ fn longest_anti_lyndon(word: &[u8]) -> usize {
     (1..=word.len()).rev().find(|&l| is_anti_lyndon(&word[..l])).expect("a letter is one")
 }
 
-/// The start table.
-pub fn lyndon_table(word: &[u8]) -> Vec<u16> {
-    (0..word.len()).map(|i| longest_anti_lyndon(&word[i..]) as u16).collect()
+/// The start table: 1 for a mark, the longest anti-Lyndon prefix of what is left of the stretch for every other place.
+pub fn lyndon_table(record: &[u8]) -> Vec<u16> {
+    let mut lengths = Vec::new();
+    for (from, stretch) in stretches(record) {
+        if from > 0 {
+            lengths.push(1);
+        }
+        lengths.extend((0..stretch.len()).map(|i| longest_anti_lyndon(&stretch[i..]) as u16));
+    }
+    lengths
 }
 
 /// First place and end of each factor that a list of ends marks.

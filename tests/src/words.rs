@@ -1,4 +1,5 @@
 //! Words to try the calls on.
+use crate::reference::SEPARATOR;
 
 /// A xorshift generator.
 #[derive(Clone)]
@@ -39,10 +40,17 @@ pub fn all_words(letters: usize, length: usize) -> impl Iterator<Item = Vec<u8>>
     })
 }
 
+/// The same, with a mark as the last of the letters.
+pub fn all_marked_words(letters: usize, length: usize) -> impl Iterator<Item = Vec<u8>> {
+    let last = b'a' + letters as u8 - 1;
+    all_words(letters, length)
+        .map(move |word| word.iter().map(|&letter| if letter == last { SEPARATOR } else { letter }).collect())
+}
+
 /// A kind of pseudo-random words: its name, and what makes a word of at most the given length.
 pub type Kind = (&'static str, fn(&mut Random, usize) -> Vec<u8>);
 
-pub const KINDS: [Kind; 9] = [
+pub const KINDS: [Kind; 11] = [
     ("uniform over few letters", uniform_few),
     ("uniform over all bytes", uniform_all),
     ("periodic", periodic),
@@ -52,7 +60,12 @@ pub const KINDS: [Kind; 9] = [
     ("nearly equal", nearly_equal),
     ("joined breaks", joined_breaks),
     ("two powers", two_powers),
+    ("with marks", with_marks),
+    ("stretches", several_stretches),
 ];
+
+/// How many kinds have marks by chance alone, or none; they come first.
+const BEFORE_MARKS: usize = 9;
 
 fn uniform_few(random: &mut Random, length: usize) -> Vec<u8> {
     let letters = 2 + random.below(3);
@@ -166,5 +179,45 @@ fn two_powers(random: &mut Random, length: usize) -> Vec<u8> {
     if let Some(last) = word.last_mut() {
         *last = random.letter(4);
     }
+    word
+}
+
+/// A word of another kind, with marks put into it: everywhere, at every second place, at the front, at the end, one, a row of them,
+/// or at random places.
+fn with_marks(random: &mut Random, length: usize) -> Vec<u8> {
+    let (_, make) = KINDS[random.below(BEFORE_MARKS)];
+    let mut word = make(random, length);
+    let n = word.len();
+    let (from, row, of) = (random.below(n), random.below(n + 1), 1 + random.below(20));
+    let kind = random.below(9);
+    for (i, letter) in word.iter_mut().enumerate() {
+        let marked = match kind {
+            0 => true,
+            1 => i % 2 == 1,
+            2 => i % 2 == 0,
+            3 => i < of,
+            4 => n - i <= of,
+            5 => i == from,
+            6 => (from..from + row).contains(&i),
+            _ => random.below(of) == 0,
+        };
+        if marked {
+            *letter = SEPARATOR;
+        }
+    }
+    word
+}
+
+/// Words of other kinds, mostly with joined breaks, with marks between them.
+fn several_stretches(random: &mut Random, length: usize) -> Vec<u8> {
+    let each = 1 + length / (1 + random.below(6));
+    let mut word = Vec::new();
+    while word.len() < length {
+        let make = if random.below(4) > 0 { joined_breaks } else { KINDS[random.below(BEFORE_MARKS)].1 };
+        let stretch_length = 1 + random.below(each);
+        word.extend(make(random, stretch_length));
+        word.resize(word.len() + 1 + random.below(2), SEPARATOR);
+    }
+    word.truncate(length);
     word
 }

@@ -1,4 +1,4 @@
-//! Paper 01's records with known ends, and what else it says of records by name, through every implementation.
+//! Paper 01's records with known ends, and what else it and the requests say of records by name, through every implementation.
 use metsroeb::{Break, Extension, Fate, Refusal, Summary, MOST};
 use metsroeb_tests::{reference, Calls, PEER, VERIFIED};
 use std::cmp::Ordering;
@@ -154,7 +154,7 @@ fn h_with_two_entries_and_with_one() {
     }
 }
 
-/// "Length 4,096 is accepted and 4,097 gets 2", by every call.
+/// "Length 4,096 is accepted and 4,097 gets 2", by every call; the test refuses marks by 9.
 #[test]
 fn the_longest_record_and_one_byte_more() {
     fn refusals(calls: &Calls, word: &[u8]) -> [Option<u8>; 8] {
@@ -174,8 +174,10 @@ fn the_longest_record_and_one_byte_more() {
     }
     assert_eq!(MOST, 4096);
     for calls in BOTH {
-        for letter in [0, b'a', 255] {
-            assert_eq!(refusals(calls, &vec![letter; 4096]), [None; 8]);
+        for letter in [0, b'a', 254, 255] {
+            let mut wanted = [None; 8];
+            wanted[0] = (letter == 255).then_some(9);
+            assert_eq!(refusals(calls, &vec![letter; 4096]), wanted);
             assert_eq!(refusals(calls, &vec![letter; 4097]), [Some(2); 8]);
         }
     }
@@ -193,6 +195,7 @@ fn refusals_print_their_conditions() {
         Refusal::BAD_START,
         Refusal::BAD_ENDS,
         Refusal::BAD_NUMBER,
+        Refusal::MARKED_RECORD,
     ];
     let unknown = Refusal::check(255).unwrap_err().condition();
     for (k, line) in lines.into_iter().enumerate() {

@@ -2,7 +2,7 @@
 //! a refusal. What the crate answers is held to the promise by the other tests.
 use metsroeb::{raw, Extension, Refusal};
 use metsroeb_tests::lent::Lent;
-use metsroeb_tests::words::{all_words, Random};
+use metsroeb_tests::words::{all_marked_words, all_words, Random};
 use std::cmp::Ordering;
 use std::fmt::Debug;
 
@@ -27,10 +27,11 @@ fn entries<const N: usize>(random: &mut Random) -> [Lent<u16>; N] {
     std::array::from_fn(|_| Lent::entries(1, random))
 }
 
-/// Short words, and records at and far above the boundary of line 2.
+/// Short words, without marks and with some, and records at and far above the boundary of line 2.
 fn records() -> Vec<Vec<u8>> {
     let long = [4096, 4097, 65_536, 65_537].map(|length| vec![b'a'; length]);
-    (0..=6).flat_map(|length| all_words(2, length)).chain(long).collect()
+    let marked = (1..=4).flat_map(|length| all_marked_words(3, length));
+    (0..=6).flat_map(|length| all_words(2, length)).chain(marked).chain(long).collect()
 }
 
 /// The sizes from 0 to twice 7, and those at and around `needed`.

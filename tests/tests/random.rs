@@ -2,8 +2,9 @@
 //! the peer, which is held to the definitions on the others.
 use metsroeb::{Break, Fate};
 use metsroeb_tests::agree::{self, Answers};
+use metsroeb_tests::reference::{self, SEPARATOR};
 use metsroeb_tests::words::{Random, KINDS};
-use metsroeb_tests::{reference, Calls, PEER, VERIFIED};
+use metsroeb_tests::{Calls, PEER, VERIFIED};
 
 /// `each` words of each kind, of `least` to `most` letters asked for.
 fn words(each: usize, least: usize, most: usize, random: &mut Random, mut with: impl FnMut(Vec<u8>, &mut Random)) -> usize {
@@ -32,25 +33,25 @@ fn against_definitions(all: &[&Calls], seed: u64, each: usize, least: usize, mos
 
 #[test]
 fn short_words() {
-    assert_eq!(against_definitions(&[&VERIFIED, &PEER], 0x5eed_0011, 7_000, 1, 16), 63_000);
+    assert_eq!(against_definitions(&[&VERIFIED, &PEER], 0x5eed_0011, 5_700, 1, 16), 62_700);
 }
 
 #[test]
 fn short_words_to_32() {
-    assert_eq!(against_definitions(&[&VERIFIED, &PEER], 0x5eed_0012, 6_000, 12, 32), 54_000);
+    assert_eq!(against_definitions(&[&VERIFIED, &PEER], 0x5eed_0012, 4_900, 12, 32), 53_900);
 }
 
 #[test]
 fn words_to_200() {
-    assert_eq!(against_definitions(&[&VERIFIED, &PEER], 0x5eed_0013, 100, 33, 200), 900);
+    assert_eq!(against_definitions(&[&VERIFIED, &PEER], 0x5eed_0013, 80, 33, 200), 880);
 }
 
 #[test]
 fn long_words() {
-    let count = words(600, 200, 4096, &mut Random::new(0x5eed_0014), |word, random| {
+    let count = words(490, 200, 4096, &mut Random::new(0x5eed_0014), |word, random| {
         agree::all(&VERIFIED, &word, &Answers::by_peer(&word), random);
     });
-    assert_eq!(count, 5_400);
+    assert_eq!(count, 5_390);
 }
 
 /// Every start of a long word with every other near it, and over many ranges.
@@ -67,49 +68,60 @@ fn comparisons_in_long_words() {
     });
 }
 
-/// What request 102 says of the breaks of any record: the steps follow one another, the letters and numbers are those of the
-/// record and of its ends, and "the kept breaks and the record's end are exactly the piece ends".
+/// What requests 102 and 103 say of the breaks of any record: the steps of a stretch follow one another, the letters and numbers are
+/// those of the record and of its ends, and the ends are the kept breaks, the ends of marks and the ends of stretches.
 #[test]
 fn breaks_and_ends() {
-    words(800, 1, 4096, &mut Random::new(0x5eed_0017), |word, _| {
+    words(650, 1, 4096, &mut Random::new(0x5eed_0017), |word, _| {
         let n = word.len();
         let (mut work, mut ends, mut breaks) = (vec![0; 3 * n], vec![0; n], vec![0; 5 * n]);
         let (ends, breaks) = (VERIFIED.icfl_with_breaks)(&word, &mut work, &mut ends, &mut breaks).unwrap();
-        assert!(breaks.len() < n);
-        let (mut last, mut kept) = (0, Vec::new());
+        let is_mark = |place: usize| word[place] == SEPARATOR;
+        let mut first_of = vec![0; n]; // of the stretch of a place
+        for i in 1..n {
+            first_of[i] = if is_mark(i - 1) { i } else { first_of[i - 1] };
+        }
+        let (mut last, mut is_end) = (0, vec![false; n + 1]);
         for Break { place, begun, border, fate } in breaks {
-            assert!(begun == last && begun < place && usize::from(place) < n);
+            let [place, begun, border] = [place, begun, border].map(usize::from);
+            assert!(begun == first_of[place].max(last) && begun < place && !is_mark(place));
             last = place;
             match fate {
                 Fate::Kept(a, b) => {
-                    let letters = [begun, place].map(|from| word[usize::from(from + border)]);
-                    assert!(letters == [a, b] && a < b);
-                    kept.push(place);
+                    assert!([begun, place].map(|from| word[from + border]) == [a, b] && a < b && b < SEPARATOR);
+                    is_end[place] = true;
                 }
                 Fate::Joined(shortfall) => {
-                    let end = ends[kept.len()];
-                    assert!(place < end && shortfall + (end - place) == border);
+                    let next = ends.partition_point(|&end| usize::from(end) < place);
+                    let end = usize::from(ends[next]);
+                    assert!(place < end && usize::from(shortfall) + (end - place) == border);
                 }
             }
         }
-        kept.push(n as u16);
-        assert_eq!(kept, ends);
+        let wanted = (1..=n).filter(|&i| is_end[i] || i == n || is_mark(i) || is_mark(i - 1)).map(|i| i as u16);
+        assert!(wanted.eq(ends.iter().copied()));
     });
 }
 
-/// The tests reach what they are meant to reach: breaks that are joined, also one inside another.
+/// The tests reach what they are meant to reach: breaks that are joined, also one inside another, and behind a mark.
 #[test]
 fn joined_breaks_are_joined() {
-    let (_, make) = KINDS.into_iter().find(|(name, _)| *name == "joined breaks").unwrap();
-    let mut random = Random::new(0x5eed_0016);
-    let (mut joined, mut joined_often) = (0, 0);
-    for _ in 0..500 {
-        let length = 33 + random.below(168);
-        let word = make(&mut random, length);
-        let (_, breaks) = reference::icfl_with_breaks(&word);
-        let joins = breaks.iter().filter(|at| matches!(at.fate, Fate::Joined(_))).count();
-        joined += (joins > 0) as usize;
-        joined_often += (joins > 1) as usize;
-    }
-    assert!(joined > 400 && joined_often > 200, "{joined} {joined_often}");
+    let joins_of = |kind, seed| {
+        let (_, make) = KINDS.into_iter().find(|(name, _)| *name == kind).unwrap();
+        let mut random = Random::new(seed);
+        let words = (0..500).map(move |_| {
+            let length = 33 + random.below(168);
+            make(&mut random, length)
+        });
+        words.map(|word| {
+            let (_, breaks) = reference::icfl_with_breaks(&word);
+            let joined = breaks.into_iter().filter(|at| matches!(at.fate, Fate::Joined(_)));
+            joined.map(|at| word[..usize::from(at.place)].contains(&SEPARATOR)).collect::<Vec<_>>()
+        })
+    };
+    let alone: Vec<_> = joins_of("joined breaks", 0x5eed_0016).map(|joins| joins.len()).collect();
+    let more_than = |least| alone.iter().filter(|&&joins| joins > least).count();
+    assert!(more_than(0) > 400 && more_than(1) > 200, "{} {}", more_than(0), more_than(1));
+    let behind = joins_of("stretches", 0x5eed_0018).filter(|joins| joins.contains(&true)).count();
+    assert!(behind > 200, "{behind}");
 }

@@ -1,16 +1,22 @@
 //! Every line of paper 01's table at its boundaries, alone and together with faults of other lines: the earlier line wins.
 use metsroeb_tests::agree::{self, Answers};
+use metsroeb_tests::reference::SEPARATOR;
 use metsroeb_tests::words::{all_words, Random};
 use metsroeb_tests::{PEER, VERIFIED};
 
-/// Records at the boundaries of lines 1 and 2, also where 16 bits overflow, with the answers for those that are accepted.
+/// Records at the boundaries of lines 1 and 2, also where 16 bits overflow, with the answers for those that are accepted: over one
+/// letter, two, and all but the mark; then of marks alone, and with a mark as the last byte alone.
 fn records() -> Vec<(Vec<u8>, Answers)> {
     let lengths = [0, 1, 2, 9, 4095, 4096, 4097, 4098, 8192, 65_535, 65_536, 65_537, 65_545, 70_000];
     let mut random = Random::new(0x5eed_0021);
     let mut records = Vec::new();
     for length in lengths {
-        for letters in [1, 2, 256] {
-            let word: Vec<u8> = (0..length).map(|_| random.below(letters) as u8).collect();
+        let mut over = |letters| (0..length).map(|_| random.below(letters) as u8).collect::<Vec<u8>>();
+        let mut words = [over(1), over(2), over(255), vec![SEPARATOR; length], over(2)];
+        if let Some(last) = words[4].last_mut() {
+            *last = SEPARATOR;
+        }
+        for word in words {
             let answers = if (1..=4096).contains(&length) { Answers::by_peer(&word) } else { Answers::NONE };
             records.push((word, answers));
         }

@@ -1,12 +1,13 @@
-//! All words of length 1 to 9 over 2 letters and 1 to 7 over 3, against the definitions.
+//! All words of length 1 to 9 over 2 letters, 1 to 7 over 3, and 1 to 6 over 2 letters and the mark, against the definitions.
 use metsroeb_tests::agree::{self, Answers};
 use metsroeb_tests::reference;
-use metsroeb_tests::words::{all_words, Random};
+use metsroeb_tests::words::{all_marked_words, all_words, Random};
 use metsroeb_tests::{Calls, PEER, VERIFIED};
 
 fn short_words() -> impl Iterator<Item = Vec<u8>> {
     let two = (1..=9).flat_map(|length| all_words(2, length));
-    two.chain((1..=7).flat_map(|length| all_words(3, length)))
+    let three = (1..=7).flat_map(|length| all_words(3, length));
+    two.chain(three).chain((1..=6).flat_map(|length| all_marked_words(3, length)))
 }
 
 /// All rising lists of ends of a record of `length` letters.
@@ -37,7 +38,7 @@ fn all_calls(calls: &Calls) {
         }
         count += 1;
     }
-    assert_eq!(count, 1022 + 3279);
+    assert_eq!(count, 1022 + 3279 + 1092);
 }
 
 #[test]

@@ -1,21 +1,20 @@
--- The forward pass, over plain lists: the notes that were taken, with those of the rest's breaks after them, are the notes of the word's breaks.
+-- The forward pass, over plain lists: the notes that were taken are those of the cuts that were found, and whatever cuts the rest has complete them.
 use mathlib.Core.Path.{_≡_, refl, ap, sym, _∙_}
+use mathlib.Core.Bool.{Bool, true, false}
 use mathlib.Core.List.{List, [], _∷_, _++_, append-assoc, append-nil}
 use Prim.Native.Nat.{ℕ, suc, _+_, _*_, _≤_, _<_}
 use native.Mathlib.Omega.{arith}
-use lib.ListN.{length, take, drop, set, length-set, length-drop}
-use lib.Seq.{take-suc-set, drop-set-add, drop-set-lt, drop-drop}
-use types.Run.{OneOf}
-use denote.Enum.Declared.{tagOf}
+use lib.ListN.{length, take, drop, set, length-set, length-drop, length-append}
+use lib.Seq.{take-suc-set, drop-set-add, drop-set-lt}
 use Rattle.buffers.proofs.BufferLaws.{kept-past}
 use Rattle.buffers.proofs.PartLaws.{rest, rest-is}
-use Rattle.words.specs.Factorizations.{firstBreak, breaksFrom, icflBreaks, prefixLength}
-use Rattle.words.specs.breaks.BreaksUnfold.{breaks-whole, breaks-step}
-use Rattle.extension.specs.declared.Extension.{Extension}
-use Rattle.extension.specs.Extension.{TestRoom, Verdict}
-use Rattle.extension.proofs.Extension.{the-type}
-use Rattle.extension.proofs.VerdictLaws.{Fails, fails-told, holds-told}
-use Rattle.breaks.specs.Cutting.{CutRoom, notesOf, BreaksFound}
+use Rattle.words.specs.declared.Break.{Break}
+use Rattle.words.specs.stretches.CutSteps.{besideSeparator, unlessBeside, cutAt, CutBy}
+use Rattle.words.specs.stretches.Cuts.{Cuts, last, cut, breaksAmong, record-breaks}
+use Rattle.extension.specs.Extension.{TestRoom}
+use Rattle.breaks.specs.declared.Cut.{Cut}
+use Rattle.breaks.specs.Cutting.{CutRoom, FirstCut, notesOf, CutsFound}
+use Rattle.breaks.proofs.NoteLaws.{among-few, notes-append}
 
 -- ---- a note
 
@@ -29,80 +28,124 @@ noted-more work n i e r l =
     (take-suc-set (set (drop n work) i e) (suc i) r (rw (length-set, length-drop) (omega arith))
     ∙ (ap (λ (t : List ℕ). t ++ r ∷ []) (take-suc-set (drop n work) i e m) ∙ append-assoc (take i (drop n work)) (e ∷ []) (r ∷ [])))
 
+-- ---- one cut more, and one break more if it lies beside no separator
+
+among-append : (w : List ℕ) (bs cs : List Break) → breaksAmong w (bs ++ cs) ≡ breaksAmong w bs ++ breaksAmong w cs
+unfolding breaksAmong
+among-append w [] cs = refl
+among-append w (b ∷ bs) cs = go (besideSeparator w (b .place)) (among-append w bs cs)
+  where
+    go : (t : Bool) → breaksAmong w (bs ++ cs) ≡ breaksAmong w bs ++ breaksAmong w cs
+        → unlessBeside t b (breaksAmong w (bs ++ cs)) ≡ unlessBeside t b (breaksAmong w bs) ++ breaksAmong w cs
+    go true e = e
+    go false e = ap (λ (t : List Break). b ∷ t) e
+
+module _ (w : List ℕ) (bs : List Break) (b : Break) where
+  beside-more : besideSeparator w (b .place) ≡ true → length (breaksAmong w (bs ++ b ∷ [])) ≡ length (breaksAmong w bs)
+  unfolding breaksAmong
+  beside-more e = ap length (among-append w bs (b ∷ [])) ∙ (length-append (breaksAmong w bs) _ ∙ rw e (omega arith))
+
+  break-more : besideSeparator w (b .place) ≡ false → length (breaksAmong w (bs ++ b ∷ [])) ≡ length (breaksAmong w bs) + 1
+  unfolding breaksAmong
+  break-more e = ap length (among-append w bs (b ∷ [])) ∙ (length-append (breaksAmong w bs) _ ∙ rw e (omega arith))
+
 -- ---- the loop
 
-pub record Finding (w work₀ work : List ℕ) (n from count : ℕ) : Type 0 where
+pub record Finding (w work₀ work : List ℕ) (n from cuts breaks : ℕ) : Type 0 where
   pub size : n ≡ length w
-  pub few : count ≤ from
+  pub few : cuts ≤ from
   pub inside : from < length w
-  pub number : count + length (breaksFrom from (drop from w)) ≡ length (icflBreaks w)
-  pub notes : take (2 * count) (drop (length w) work) ++ notesOf (breaksFrom from (drop from w)) ≡ notesOf (icflBreaks w)
+  pub found : List Break
+  pub whole : (bs : List Break) → Cuts w from bs → Cuts w 0 (found ++ bs)
+  pub number : cuts ≡ length found
+  pub broken : breaks ≡ length (breaksAmong w found)
+  pub notes : take (2 * cuts) (drop (length w) work) ≡ notesOf found
   pub kept : drop (3 * length w) work ≡ drop (3 * length w) work₀
   pub long : length work ≡ length work₀
 
-pub find-starts : (w work : List ℕ) → CutRoom w work → Finding w work work (length w) 0 0
-unfolding icflBreaks
-find-starts w work r = record { size = refl; few = omega arith; inside = r .nonempty; number = omega arith; notes = refl; kept = refl; long = refl }
+pub find-starts : (w work : List ℕ) → CutRoom w work → Finding w work work (length w) 0 0 0
+unfolding notesOf breaksAmong
+find-starts w work r = record {
+  size = refl;
+  few = omega arith;
+  inside = r .nonempty;
+  found = [];
+  whole = λ bs c. c;
+  number = refl;
+  broken = refl;
+  notes = refl;
+  kept = refl;
+  long = refl;
+}
 
-pub find-fits : (w work₀ work : List ℕ) (n from count : ℕ) → CutRoom w work₀ → Finding w work₀ work n from count → TestRoom (rest from w) work
-find-fits w work₀ work n from count r g = rw (rest-is from w) (record {
+pub breaks-few : {w work₀ work : List ℕ} {n from cuts breaks : ℕ} → Finding w work₀ work n from cuts breaks → breaks ≤ cuts
+breaks-few {w} g = omega (arith, g .broken, g .number, among-few w (g .found))
+
+pub find-fits : (w work₀ work : List ℕ) (n from cuts breaks : ℕ) → CutRoom w work₀ → Finding w work₀ work n from cuts breaks → TestRoom (rest from w) work
+find-fits w work₀ work n from cuts breaks r g = rw (rest-is from w) (record {
   nonempty = rw length-drop (omega (arith, g .inside));
   short = rw length-drop (omega (arith, r .short));
   entries = rw length-drop (omega (arith, r .entries, g .long));
 })
 
-module _ (w work₀ work work₁ : List ℕ) (n from count : ℕ) (g : Finding w work₀ work n from count) (a : Extension) (v : Verdict (rest from w) work a work₁) where
-  verdict : Verdict (drop from w) work a work₁
-  verdict = rw (rest-is from w) at v
+module _ (w work₀ work work₁ : List ℕ) (n from cuts breaks : ℕ) (g : Finding w work₀ work n from cuts breaks) (a : Cut) (f : FirstCut (rest from w) work a work₁) where
+  first : FirstCut (drop from w) work a work₁
+  first = rw (rest-is from w) at f
 
-  -- the test uses the entries of the rest's letters only
+  -- the entries of the rest's letters are used, no others
   kept-from : (m : ℕ) → length w ≤ m → drop m work₁ ≡ drop m work
-  kept-from m l = kept-past (length (drop from w)) m work₁ work (rw length-drop (omega arith)) (verdict .kept)
+  kept-from m l = kept-past (length (drop from w)) m work₁ work (rw length-drop (omega arith)) (first .kept)
 
-  pub find-ends : OneOf (0 ∷ 2 ∷ []) (tagOf the-type a) → BreaksFound w work₀ count work₁
-  unfolding notesOf
-  find-ends h =
-      let none : breaksFrom from (drop from w) ≡ [] = breaks-whole from (drop from w) (holds-told (drop from w) a h (verdict .answer)) in
-      let all : count + 0 ≡ length (icflBreaks w) = rw none at (g .number) in
+  pub find-ends : a ≡ Cut.None → CutsFound w work₀ (record { cuts = cuts; breaks = breaks }) work₁
+  find-ends z =
+      let all : Cuts w 0 (g .found) = rw append-nil at (g .whole [] (last (g .inside) (rw z at (first .told)))) in
       record {
-        noted = record {
-          number = omega (arith, all);
-          notes = rw (kept-from (length w) (omega arith)) (sym (append-nil (take (2 * count) (drop (length w) work))) ∙ (rw none at (g .notes)));
-        };
+        noted = record { cuts = g .found; walk = all; number = g .number; notes = rw (kept-from (length w) (omega arith)) (g .notes) };
+        breaks = g .broken ∙ ap length (record-breaks all);
         kept = kept-from (3 * length w) (omega arith) ∙ g .kept;
       }
 
-  module _ (l p r : ℕ) (z : a ≡ Extension.Failing l p r) where
-    pub found : Fails (drop from w) l p r
-    found = fails-told (drop from w) l p r (rw length-drop (omega (arith, g .inside))) (sym z ∙ verdict .answer)
+  module _ (p r : ℕ) (z : a ≡ Cut.After p r) where
+    pub cut-by : CutBy (drop from w) p r
+    cut-by = rw z at (first .told)
 
-    step-inside : from + p + r < length w
-    step-inside = omega (arith, found .inside, length-drop from w)
+    pub cut-inside : from + p + r < length w
+    cut-inside = omega (arith, cut-by .inside, length-drop from w)
 
-    -- the rest's first break, and those after it
-    next-break : breaksFrom from (drop from w) ≡ firstBreak from (drop from w) ∷ breaksFrom (from + p) (drop (from + p) w)
-    next-break =
-        let some : 0 < length (drop from w) = rw length-drop (omega (arith, g .inside)) in
-        rw (found .prefix, ← drop-drop (prefixLength (drop from w)) from w) (breaks-step from (drop from w) some (found .not))
+    abbrev told : Break
+    told = cutAt from p r (drop from w)
 
-    pub find-on : 3 * length w ≤ length work₁ → length work₁ ≡ length work
-        → Finding w work₀ (set (set work₁ (n + 2 * count) (from + p)) (n + 2 * count + 1) r) n (from + p) (count + 1)
-    unfolding notesOf
-    find-on m y = record {
-      size = g .size;
-      few = omega (arith, g .few, found .positive);
-      inside = omega (arith, step-inside);
-      number = let all = rw next-break at (g .number) in omega (arith, all);
-      notes = rw (noted, append-assoc, found .prefix, found .border) (rw (next-break, found .prefix) at (g .notes));
-      kept =
-          drop-set-lt (3 * length w) (set work₁ (n + 2 * count) (from + p)) (n + 2 * count + 1) r (omega (arith, g .size, g .few, g .inside))
-          ∙ (drop-set-lt (3 * length w) work₁ (n + 2 * count) (from + p) (omega (arith, g .size, g .few, g .inside))
-          ∙ (kept-from (3 * length w) (omega arith) ∙ g .kept));
-      long = length-set (set work₁ (n + 2 * count) (from + p)) (n + 2 * count + 1) r ∙ (length-set work₁ (n + 2 * count) (from + p) ∙ (y ∙ g .long));
-    }
-      where
-        noted : take (2 * (count + 1)) (drop (length w) (set (set work₁ (n + 2 * count) (from + p)) (n + 2 * count + 1) r))
-            ≡ take (2 * count) (drop (length w) work) ++ (from + p) ∷ r ∷ []
-        noted =
-            let k : 2 * (count + 1) ≡ suc (suc (2 * count)) = omega arith in
-            rw (k, g .size) (noted-more work₁ (length w) (2 * count) (from + p) r (omega (arith, g .few, g .inside)) ∙ rw (kept-from (length w) (omega arith)))
+    abbrev after : List ℕ
+    after = set (set work₁ (n + 2 * cuts) (from + p)) (n + 2 * cuts + 1) r
+
+    -- with the number of breaks after it
+    module _ (m : 3 * length w ≤ length work₁) (y : length work₁ ≡ length work) (breaks′ : ℕ) (t : breaks′ ≡ length (breaksAmong w (g .found ++ told ∷ []))) where
+      pub find-on : Finding w work₀ after n (from + p) (cuts + 1) breaks′
+      unfolding notesOf
+      find-on = record {
+        size = g .size;
+        few = omega (arith, g .few, cut-by .positive);
+        inside = omega (arith, cut-inside);
+        found = g .found ++ told ∷ [];
+        whole = λ bs c. rw (append-assoc (g .found) (told ∷ []) bs) (g .whole (told ∷ bs) (cut p r (g .inside) cut-by c));
+        number = let size : length (g .found ++ told ∷ []) ≡ length (g .found) + 1 = length-append (g .found) (told ∷ []) in omega (arith, g .number, size);
+        broken = t;
+        notes = noted ∙ (ap (λ (es : List ℕ). es ++ (from + p) ∷ r ∷ []) (g .notes) ∙ sym (notes-append (g .found) (told ∷ [])));
+        kept =
+            drop-set-lt (3 * length w) (set work₁ (n + 2 * cuts) (from + p)) (n + 2 * cuts + 1) r (omega (arith, g .size, g .few, g .inside))
+            ∙ (drop-set-lt (3 * length w) work₁ (n + 2 * cuts) (from + p) (omega (arith, g .size, g .few, g .inside))
+            ∙ (kept-from (3 * length w) (omega arith) ∙ g .kept));
+        long = length-set (set work₁ (n + 2 * cuts) (from + p)) (n + 2 * cuts + 1) r ∙ (length-set work₁ (n + 2 * cuts) (from + p) ∙ (y ∙ g .long));
+      }
+        where
+          noted : take (2 * (cuts + 1)) (drop (length w) after) ≡ take (2 * cuts) (drop (length w) work) ++ (from + p) ∷ r ∷ []
+          noted =
+              let k : 2 * (cuts + 1) ≡ suc (suc (2 * cuts)) = omega arith in
+              rw (k, g .size) (noted-more work₁ (length w) (2 * cuts) (from + p) r (omega (arith, g .few, g .inside)) ∙ rw (kept-from (length w) (omega arith)))
+
+    module _ (m : 3 * length w ≤ length work₁) (y : length work₁ ≡ length work) where
+      pub find-beside : besideSeparator w (from + p) ≡ true → Finding w work₀ after n (from + p) (cuts + 1) breaks
+      find-beside e = find-on m y breaks (g .broken ∙ sym (beside-more w (g .found) told e))
+
+      pub find-break : besideSeparator w (from + p) ≡ false → Finding w work₀ after n (from + p) (cuts + 1) (breaks + 1)
+      find-break e = find-on m y (breaks + 1) (rw (g .broken) (sym (break-more w (g .found) told e)))

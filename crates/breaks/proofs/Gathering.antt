@@ -1,4 +1,4 @@
--- The backward pass, over plain lists: from entry top up to entry n stand the ends of what follows the first k breaks.
+-- The backward pass, over plain lists: from entry top up to entry n stand the ends of what follows the first k cuts.
 use mathlib.Core.Path.{_≡_, refl, ap, sym, _∙_}
 use mathlib.Core.List.{List, [], _∷_}
 use Prim.Native.Nat.{ℕ, suc, _+_, _-_, _*_, _≤_, _<_}
@@ -7,13 +7,14 @@ use lib.ListN.{length, take, drop, getD, set, length-set, drop-of-length-le}
 use lib.Seq.{slice, slice-cons, slice-empty, drop-set-lt, getD-set-same}
 use Rattle.buffers.proofs.PartLaws.{part-is}
 use Rattle.buffers.proofs.BufferLaws.{kept-past}
-use Rattle.words.specs.Factorizations.{icflBreaks}
 use Rattle.words.specs.Statements.{keptPlaces}
 use Rattle.words.specs.declared.Fate.{Fate}
-use Rattle.words.specs.breaks.BreakSteps.{Ended, kept, joined, keptEnds, BreakAt}
-use Rattle.words.specs.breaks.IcflBreaks.{icfl-breaks}
-use Rattle.breaks.specs.Cutting.{CutRoom, Noted, BreaksFound, EndsGathered, CutFound}
-use Rattle.breaks.proofs.NoteLaws.{noted-kept, few-noted, noted-break, note-at}
+use Rattle.words.specs.declared.Break.{Break}
+use Rattle.words.specs.breaks.BreakSteps.{Ended, kept, joined, keptEnds}
+use Rattle.words.specs.stretches.Cuts.{Cuts, record-ends, CutAt}
+use Rattle.breaks.specs.declared.Counts.{Counts}
+use Rattle.breaks.specs.Cutting.{CutRoom, notesOf, Noted, CutsFound, EndsGathered, CutFound}
+use Rattle.breaks.proofs.NoteLaws.{noted-kept, few-noted, noted-cut, note-at}
 
 -- ---- a part of the buffer that ends at n, one entry longer
 
@@ -27,38 +28,43 @@ slice-more xs i n v l m =
 
 -- ---- the loop
 
-abbrev endsAfter : List ℕ → ℕ → List ℕ
-endsAfter w k = keptEnds w (drop k (icflBreaks w))
+abbrev endsAfter : List ℕ → List Break → ℕ → List ℕ
+endsAfter w bs k = keptEnds w (drop k bs)
 
 pub record Gathering (w work₀ work : List ℕ) (count k top next : ℕ) : Type 0 where
+  pub cuts : List Break
+  pub walk : Cuts w 0 cuts
+  pub number : count ≡ length cuts
+  pub notes : take (2 * count) (drop (length w) work) ≡ notesOf cuts
   pub upto : k ≤ count
   pub low : length w + k ≤ top + 1 + count
   pub high : top < length w
   pub current : next ≡ getD work top 0
-  pub ends : slice top (length w) work ≡ endsAfter w k
+  pub ends : slice top (length w) work ≡ endsAfter w cuts k
   pub kept : drop (length w) work ≡ drop (length w) work₀
   pub long : length work ≡ length work₀
 
--- the word's end stands in the last entry before the notes
+-- the record's end stands in the last entry before the notes
 module _ (w work : List ℕ) (count : ℕ) (r : CutRoom w work) (x : Noted w work count) where
   abbrev pub started : List ℕ
   started = set work (length w - 1) (length w)
 
-  pub started-kept : drop (length w) started ≡ drop (length w) work
+  started-kept : drop (length w) started ≡ drop (length w) work
   started-kept = drop-set-lt (length w) work (length w - 1) (length w) (omega (arith, r .nonempty))
 
   pub started-room : CutRoom w started
   started-room = record { nonempty = r .nonempty; short = r .short; entries = rw length-set (r .entries) }
 
-  pub started-noted : Noted w started count
-  started-noted = noted-kept started-kept x
-
   pub gather-starts : Gathering w started started count count (length w - 1) (length w)
   unfolding keptPlaces
   gather-starts =
-      let none : drop count (icflBreaks w) ≡ [] = drop-of-length-le (icflBreaks w) {i = count} (omega (arith, x .number)) in
+      let none : drop count (x .cuts) ≡ [] = drop-of-length-le (x .cuts) {i = count} (omega (arith, x .number)) in
       let z : suc (length w - 1) ≡ length w = omega (arith, r .nonempty) in
       record {
+        cuts = x .cuts;
+        walk = x .walk;
+        number = x .number;
+        notes = rw started-kept (x .notes);
         upto = omega arith;
         low = omega (arith, r .nonempty);
         high = omega (arith, r .nonempty);
@@ -68,51 +74,61 @@ module _ (w work : List ℕ) (count : ℕ) (r : CutRoom w work) (x : Noted w wor
         long = refl;
       }
 
-module _ (w work₀ work : List ℕ) (count k top next : ℕ) (r : CutRoom w work₀) (x : Noted w work₀ count) (g : Gathering w work₀ work count k top next) where
+module _ (w work₀ work : List ℕ) (count k top next : ℕ) (r : CutRoom w work₀) (g : Gathering w work₀ work count k top next) where
+  abbrev bs : List Break
+  bs = g .cuts
+
+  abbrev noted : Noted w work count
+  noted = record { cuts = bs; walk = g .walk; number = g .number; notes = g .notes }
+
+  pub few : count < length w
+  few = few-noted w work count noted
+
   pub top-inside : top < length work
   top-inside = omega (arith, g .high, g .long, r .entries)
 
   module _ (p : 0 < k) where
-    noted : Noted w work count
-    noted = noted-kept (g .kept) x
-
-    -- the last break that is left
+    -- the last cut that is left
     abbrev i : ℕ
     i = k - 1
 
     left : i < count
     left = omega (arith, g .upto)
 
-    break : BreakAt w (icflBreaks w) i
-    break = noted-break w work count (r .nonempty) noted i left
+    cut : CutAt w bs i
+    cut = noted-cut w work count noted i left
 
-    place-is : getD work (length w + 2 * i) 0 ≡ break .break .place
-    unfolding break
-    place-is = note-at w work count (r .nonempty) noted i left .0
+    place-is : getD work (length w + 2 * i) 0 ≡ cut .told .place
+    unfolding cut
+    place-is = note-at w work count noted i left .0
 
-    border-is : getD work (length w + 2 * i + 1) 0 ≡ break .break .border
-    unfolding break
-    border-is = note-at w work count (r .nonempty) noted i left .1
+    border-is : getD work (length w + 2 * i + 1) 0 ≡ cut .told .border
+    unfolding cut
+    border-is = note-at w work count noted i left .1
 
     -- entry top is the end of the first factor of what follows
-    next-is : next ≡ getD (endsAfter w k) 0 0
+    next-is : next ≡ getD (endsAfter w bs k) 0 0
     next-is = g .current ∙ ap (λ (t : List ℕ). getD t 0 0) (sym (slice-cons top (length w) work 0 (g .high) (omega (arith, r .entries, g .long))) ∙ g .ends)
 
     pub note-inside : length w + 2 * i + 1 < length work
-    note-inside = omega (arith, g .long, r .entries, few-noted w work₀ count (r .nonempty) x, left)
+    note-inside = omega (arith, g .long, r .entries, few, left)
 
     pub top-positive : 0 < top
-    top-positive = omega (arith, g .low, g .upto, few-noted w work₀ count (r .nonempty) x)
+    top-positive = omega (arith, g .low, g .upto, few)
 
-    ended : Ended (break .break .place) (break .break .border) (getD w (break .begun + break .break .border) 0)
-        (getD w (break .break .place + break .break .border) 0) (endsAfter w i) (endsAfter w k) (break .break .fate)
+    ended : Ended (cut .told .place) (cut .told .border) (getD w (cut .begun + cut .told .border) 0)
+        (getD w (cut .told .place + cut .told .border) 0) (endsAfter w bs i) (endsAfter w bs k) (cut .told .fate)
     ended =
         let z : suc i ≡ k = omega arith in
-        let after : endsAfter w i ≡ keptEnds w (break .break ∷ drop k (icflBreaks w)) = ap (keptEnds w) (rw z at (break .is)) in
-        rw after (rw z at (break .first .ended))
+        let after : endsAfter w bs i ≡ keptEnds w (cut .told ∷ drop k bs) = ap (keptEnds w) (rw z at (cut .is)) in
+        rw after (rw z at (cut .first .ended))
 
     pub joined-on : next ≤ getD work (length w + 2 * i) 0 + getD work (length w + 2 * i + 1) 0 → Gathering w work₀ work count i top next
     joined-on l = record {
+      cuts = bs;
+      walk = g .walk;
+      number = g .number;
+      notes = g .notes;
       upto = omega (arith, g .upto);
       low = omega (arith, g .low);
       high = g .high;
@@ -122,7 +138,7 @@ module _ (w work₀ work : List ℕ) (count k top next : ℕ) (r : CutRoom w wor
       long = g .long;
     }
       where
-        go : {a b : ℕ} {f : Fate} → Ended (break .break .place) (break .break .border) a b (endsAfter w i) (endsAfter w k) f → endsAfter w i ≡ endsAfter w k
+        go : {a b : ℕ} {f : Fate} → Ended (cut .told .place) (cut .told .border) a b (endsAfter w bs i) (endsAfter w bs k) f → endsAfter w bs i ≡ endsAfter w bs k
         go (joined h s e) = e
         go (kept h e) = absurd (omega (arith, place-is, border-is, next-is))
 
@@ -130,7 +146,13 @@ module _ (w work₀ work : List ℕ) (count k top next : ℕ) (r : CutRoom w wor
         → Gathering w work₀ (set work (top - 1) (getD work (length w + 2 * i) 0)) count i (top - 1) (getD work (length w + 2 * i) 0)
     kept-on l =
         let z : suc (top - 1) ≡ top = omega (arith, top-positive) in
+        let same : drop (length w) (set work (top - 1) (getD work (length w + 2 * i) 0)) ≡ drop (length w) work
+        = drop-set-lt (length w) work (top - 1) (getD work (length w + 2 * i) 0) (omega (arith, g .high)) in
         record {
+          cuts = bs;
+          walk = g .walk;
+          number = g .number;
+          notes = rw same (g .notes);
           upto = omega (arith, g .upto);
           low = omega (arith, g .low, top-positive);
           high = omega (arith, g .high);
@@ -138,12 +160,12 @@ module _ (w work₀ work : List ℕ) (count k top next : ℕ) (r : CutRoom w wor
           ends =
               slice-more work (top - 1) (length w) (getD work (length w + 2 * i) 0) (omega (arith, g .high)) (omega (arith, r .entries, g .long))
               ∙ (rw (z, place-is, g .ends) (sym (go ended)));
-          kept = drop-set-lt (length w) work (top - 1) (getD work (length w + 2 * i) 0) (omega (arith, g .high)) ∙ g .kept;
+          kept = same ∙ g .kept;
           long = length-set work (top - 1) (getD work (length w + 2 * i) 0) ∙ g .long;
         }
       where
-        go : {a b : ℕ} {f : Fate} → Ended (break .break .place) (break .break .border) a b (endsAfter w i) (endsAfter w k) f
-            → endsAfter w i ≡ break .break .place ∷ endsAfter w k
+        go : {a b : ℕ} {f : Fate} → Ended (cut .told .place) (cut .told .border) a b (endsAfter w bs i) (endsAfter w bs k) f
+            → endsAfter w bs i ≡ cut .told .place ∷ endsAfter w bs k
         go (kept h e) = e
         go (joined h s e) = absurd (omega (arith, place-is, border-is, next-is))
 
@@ -153,17 +175,19 @@ gather-ends w work₀ work count k top next r g l =
     let z : k ≡ 0 = omega arith in
     record {
       inside = g .high;
-      ends = g .ends ∙ (rw z (icfl-breaks w (r .nonempty) .ends));
+      ends = g .ends ∙ (rw z (record-ends (g .walk)));
       kept = g .kept ∙ drop-set-lt (length w) work₀ (length w - 1) (length w) (omega (arith, r .nonempty));
     }
 
 -- ---- both passes
 
-pub cut-found : (w work work₁ work₂ : List ℕ) (first breaks : ℕ) → BreaksFound w work breaks work₁ → EndsGathered w work₁ first work₂
-    → CutFound w work (record { first = first; breaks = breaks }) work₂
-cut-found w work work₁ work₂ first breaks b e = record {
+pub cut-found : (w work work₁ work₂ : List ℕ) (first : ℕ) (r : Counts) → CutsFound w work r work₁ → EndsGathered w work₁ first work₂
+    → CutFound w work (record { first = first; breaks = r .breaks }) work₂
+cut-found w work work₁ work₂ first r b e = record {
   inside = e .inside;
   ends = e .ends;
+  count = r .cuts;
   noted = noted-kept (e .kept) (b .noted);
+  breaks = b .breaks;
   kept = kept-past (length w) (3 * length w) work₂ work₁ (omega arith) (e .kept) ∙ b .kept;
 }

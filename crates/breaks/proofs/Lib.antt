@@ -1,3 +1,4 @@
-pub mod Finding
+pub mod FirstCuts
 pub mod NoteLaws
+pub mod Finding
 pub mod Gathering

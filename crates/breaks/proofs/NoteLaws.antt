@@ -1,19 +1,40 @@
--- Notes of breaks in the work buffer: break k of the word is what the two entries of note k say (note-at); who leaves the entries behind the letters as they
--- are, leaves the notes (noted-kept).
+-- Notes of cuts in the work buffer: cut k of the record is what the two entries of note k say (note-at); who leaves the entries behind the letters as they are,
+-- leaves the notes (noted-kept).
 use mathlib.Core.Path.{_≡_, refl, ap, sym, _∙_}
-use mathlib.Core.List.{List, [], _∷_}
-use Prim.Native.Nat.{ℕ, zero, suc, _+_, _*_, _<_}
+use mathlib.Core.Bool.{Bool, true, false}
+use mathlib.Core.List.{List, [], _∷_, _++_}
+use Prim.Native.Nat.{ℕ, zero, suc, _+_, _*_, _≤_, _<_}
 use native.Mathlib.Omega.{arith}
 use lib.ListN.{length, drop, getD}
 use lib.Seq.{getD-take, getD-drop}
-use Rattle.words.specs.Factorizations.{icflBreaks}
 use Rattle.words.specs.declared.Break.{Break}
-use Rattle.words.specs.breaks.BreakSteps.{breaks-steps, BreakAt, break-at}
-use Rattle.words.specs.breaks.IcflBreaks.{icfl-breaks}
-use Rattle.breaks.specs.Cutting.{notesOf, Noted}
+use Rattle.words.specs.stretches.CutSteps.{besideSeparator, unlessBeside}
+use Rattle.words.specs.stretches.Cuts.{cuts-few, CutAt, cut-at, breaksAmong, record-breaks}
+use Rattle.breaks.specs.declared.Found.{Found}
+use Rattle.breaks.specs.Cutting.{notesOf, Noted, CutFound}
 
 pub noted-kept : {w work work′ : List ℕ} {count : ℕ} → drop (length w) work′ ≡ drop (length w) work → Noted w work count → Noted w work′ count
-noted-kept e x = record { number = x .number; notes = rw e (x .notes) }
+noted-kept e x = record { cuts = x .cuts; walk = x .walk; number = x .number; notes = rw e (x .notes) }
+
+pub notes-append : (bs cs : List Break) → notesOf (bs ++ cs) ≡ notesOf bs ++ notesOf cs
+unfolding notesOf
+notes-append [] cs = refl
+notes-append (b ∷ bs) cs = ap (λ (t : List ℕ). b .place ∷ b .border ∷ t) (notes-append bs cs)
+
+-- some of the cuts are breaks
+pub among-few : (w : List ℕ) (bs : List Break) → length (breaksAmong w bs) ≤ length bs
+unfolding breaksAmong
+among-few w [] = omega arith
+among-few w (b ∷ bs) = go (besideSeparator w (b .place)) (among-few w bs)
+  where
+    go : (t : Bool) → length (breaksAmong w bs) ≤ length bs → length (unlessBeside t b (breaksAmong w bs)) ≤ length (b ∷ bs)
+    go true h = omega arith
+    go false h = omega arith
+
+pub breaks-fewer : {w work work′ : List ℕ} {r : Found} → CutFound w work r work′ → r .breaks < length w
+breaks-fewer {w} x =
+    let cuts = x .noted .cuts in
+    omega (arith, x .breaks, ap length (record-breaks (x .noted .walk)), among-few w cuts, cuts-few (x .noted .walk))
 
 drop-notes : (k : ℕ) (bs : List Break) → drop (2 * k) (notesOf bs) ≡ notesOf (drop k bs)
 unfolding notesOf
@@ -21,24 +42,23 @@ drop-notes zero bs = refl
 drop-notes (suc k) [] = let z : 2 * suc k ≡ suc (suc (2 * k)) = omega arith in rw z
 drop-notes (suc k) (b ∷ bs) = let z : 2 * suc k ≡ suc (suc (2 * k)) = omega arith in rw z (drop-notes k bs)
 
-module _ (w work : List ℕ) (count : ℕ) (some : 0 < length w) (x : Noted w work count) where
+module _ (w work : List ℕ) (count : ℕ) (x : Noted w work count) where
   pub few-noted : count < length w
-  few-noted = omega (arith, x .number, icfl-breaks w some .few)
+  few-noted = omega (arith, x .number, cuts-few (x .walk))
 
-  entry-of : (j : ℕ) → j < 2 * count → getD work (length w + j) 0 ≡ getD (notesOf (icflBreaks w)) j 0
+  entry-of : (j : ℕ) → j < 2 * count → getD work (length w + j) 0 ≡ getD (notesOf (x .cuts)) j 0
   entry-of j l = sym (getD-drop (length w) work j 0) ∙ (sym (getD-take (2 * count) (drop (length w) work) j 0 l) ∙ ap (λ (t : List ℕ). getD t j 0) (x .notes))
 
   module _ (k : ℕ) (l : k < count) where
-    pub noted-break : BreakAt w (icflBreaks w) k
-    unfolding icflBreaks
-    noted-break = break-at (breaks-steps w 0 some) k (omega (arith, x .number))
+    pub noted-cut : CutAt w (x .cuts) k
+    noted-cut = cut-at (x .walk) k (omega (arith, x .number))
 
-    note-of : (j : ℕ) → getD (notesOf (icflBreaks w)) (2 * k + j) 0
-        ≡ getD (noted-break .break .place ∷ noted-break .break .border ∷ notesOf (drop (suc k) (icflBreaks w))) j 0
+    note-of : (j : ℕ) → getD (notesOf (x .cuts)) (2 * k + j) 0
+        ≡ getD (noted-cut .told .place ∷ noted-cut .told .border ∷ notesOf (drop (suc k) (x .cuts))) j 0
     unfolding notesOf
-    note-of j = sym (getD-drop (2 * k) (notesOf (icflBreaks w)) j 0) ∙ ap (λ (t : List ℕ). getD t j 0) (drop-notes k (icflBreaks w) ∙ ap notesOf (noted-break .is))
+    note-of j = sym (getD-drop (2 * k) (notesOf (x .cuts)) j 0) ∙ ap (λ (t : List ℕ). getD t j 0) (drop-notes k (x .cuts) ∙ ap notesOf (noted-cut .is))
 
-    pub note-at : (getD work (length w + 2 * k) 0 ≡ noted-break .break .place) × (getD work (length w + 2 * k + 1) 0 ≡ noted-break .break .border)
+    pub note-at : (getD work (length w + 2 * k) 0 ≡ noted-cut .told .place) × (getD work (length w + 2 * k + 1) 0 ≡ noted-cut .told .border)
     note-at =
         let a : 2 * k + 0 ≡ 2 * k = omega arith in
         let b : length w + (2 * k + 1) ≡ length w + 2 * k + 1 = omega arith in

@@ -9,6 +9,7 @@ use samples::Run;
 use samples::random_record;
 use samples::shaped_record;
 use samples::spell;
+use samples::spell_with_marks;
 use trials::RANGES;
 use trials::try_cases;
 
@@ -16,13 +17,15 @@ use trials::try_cases;
 pub enum Group {
     /// The words over so many letters, the shorter ones first; all calls.
     Words { letters: usize },
+    /// The same, with a mark as the last of the letters.
+    MarkedWords { letters: usize },
     /// Pseudo-random records of up to so many letters; all calls.
     Random { most: usize },
-    /// Eight shapes of 4,095, 4,096 and 4,097 letters; all calls.
+    /// Sixteen shapes, half of them with marks, of 4,095, 4,096 and 4,097 letters; all calls.
     Long,
-    /// Eight shapes of each length at the boundaries; the calls that are lent buffers, at the boundaries of the refusals 1 to 4.
+    /// The same shapes of each length at the boundaries; the calls that are lent buffers, at the boundaries of the refusals 1 to 4, and of 9 after 3.
     Lent,
-    /// A record of each length at the boundaries; the comparison, at the boundaries of range and starts.
+    /// Two records of each length at the boundaries, one with marks; the comparison, at the boundaries of range and starts.
     Ranges,
     /// A record of each length at the boundaries; the reader and the summary, on lists with faults.
     Lists,
@@ -32,10 +35,12 @@ pub enum Group {
 fn write_record(group: Group, i: usize, word: &mut [u8], run: &mut Run) -> usize {
     match group {
         Group::Words { letters } => spell(word, letters, plus(i, 1)),
+        Group::MarkedWords { letters } => spell_with_marks(word, letters, plus(i, 1), run),
         Group::Random { most } => random_record(word, most, run),
         Group::Long => shaped_record(word, 4 + i % 3, i / 3, run),
         Group::Lent => shaped_record(word, i % 7, i / 7, run),
-        _ => shaped_record(word, i, 1, run),
+        Group::Ranges => shaped_record(word, i % 7, if i < 7 { 1 } else { 14 }, run),
+        Group::Lists => shaped_record(word, i, 1, run),
     }
 }
 

@@ -13,11 +13,12 @@ fn main() {
     run[STATE] = 20011;
     try_group(Group::Words { letters: 2 }, 1022, &mut run);
     try_group(Group::Words { letters: 3 }, 1092, &mut run);
+    try_group(Group::MarkedWords { letters: 3 }, 1092, &mut run);
     try_group(Group::Random { most: 300 }, 3000, &mut run);
     try_group(Group::Random { most: 4096 }, 60, &mut run);
-    try_group(Group::Long, 24, &mut run);
-    try_group(Group::Lent, 56, &mut run);
-    try_group(Group::Ranges, 7, &mut run);
+    try_group(Group::Long, 48, &mut run);
+    try_group(Group::Lent, 112, &mut run);
+    try_group(Group::Ranges, 14, &mut run);
     try_group(Group::Lists, 7, &mut run);
     printing::print_all(&run);
 }

@@ -6,8 +6,9 @@ use Prim.Native.Nat.{ℕ, _≤_}
 use native.Mathlib.Omega.{arith}
 use borrow.Author.Tests.{le-ltb}
 use lib.ListN.{length}
-use Rattle.words.specs.Factorizations.{cflInEnds}
-use Rattle.words.specs.places.EndsRise.{rises-few, cfl-in-ends-rise}
+use Rattle.words.specs.Separated.{separatedCflInEnds}
+use Rattle.words.specs.places.EndsRise.{rises-few}
+use Rattle.words.specs.stretches.Factors.{separated-cfl-in-ends-rise}
 use Rattle.checks.specs.Lines.{tried, resultLine}
 use Rattle.checks.specs.declared.Checked.{Checked}
 use Rattle.checks.specs.declared.Checked.the-variants.{Passed}
@@ -16,8 +17,8 @@ use Rattle.cfl.specs.CflIn.{RoomChecked, Walked}
 
 pub room-at-once : (w buffer : List ℕ) → length w ≤ length buffer → RoomChecked w buffer Passed buffer
 room-at-once w buffer l =
-    let few : length (cflInEnds w) ≤ length w = omega (arith, rises-few (cfl-in-ends-rise w)) in
-    record { answer = sym (all-pass _ (le-ltb (length buffer) (length (cflInEnds w)) (omega arith), search)); kept = refl }
+    let few : length (separatedCflInEnds w) ≤ length w = omega (arith, rises-few (separated-cfl-in-ends-rise w)) in
+    record { answer = sym (all-pass _ (le-ltb (length buffer) (length (separatedCflInEnds w)) (omega arith), search)); kept = refl }
 
 pub room-counted : {w buffer buffer′ : List ℕ} {count : ℕ} {k : Checked} → Walked w buffer false count buffer′
     → k ≡ tried (resultLine (length buffer′) count ∷ []) → RoomChecked w buffer k buffer′

@@ -1,4 +1,5 @@
-//! The Lyndon factorization in the inverse order (paper 01: the strict cut), by Duval's algorithm on the shared scan.
+//! The Lyndon factorization in the inverse order (paper 01: the strict cut), stretch by stretch (request 103), by Duval's algorithm on the
+//! shared scan.
 use checks::Checked;
 use checks::Counted;
 use scan::Scan;
@@ -13,13 +14,20 @@ struct Run {
     until: usize,
 }
 
-// The run at `from`: the one that is known, or that of the longest anti-Lyndon prefix there, from a scan.
+// The run at `from`: the one that is known, a separator alone, or that of the longest anti-Lyndon prefix there, from a scan. A scan that
+// begins below the separator stops before the next one by itself, since no letter is larger.
 fn run_at(word: &[u8], from: usize, known: Run) -> Run
     requires { ⌜ RunAsked (now word) from known ⌝ }
     ensures { λ r. ⌜ RunAt (now (word .entry)) from r ⌝ }
 {
     if from < known.until {
         return known;
+    }
+    if word[from] == words::SEPARATOR {
+        return Run {
+            length: 1,
+            until: from + 1,
+        };
     }
     let start = Scan::start();
     let s = scan::scan_on(&word[from..], start);
@@ -64,7 +72,8 @@ fn check_room(word: &[u8], ends: &mut [u16]) -> Checked
     checks::check_result(ends.len(), count)
 }
 
-/// The strict cut: writes the ends of the factors from entry 0 on, and answers their number. Refusals 1, 2, 4.
+/// The strict cut: writes the ends of the factors from entry 0 on, and answers their number. Each separator is a factor, and each stretch
+/// between two is cut by itself. Refusals 1, 2, 4.
 pub fn cfl_in(word: &[u8], ends: &mut [u16]) -> Counted
     ensures { λ r. ⌜ CflInDone (now (word .entry)) (now (ends .entry)) r (now (ends .exit)) ⌝ }
 {

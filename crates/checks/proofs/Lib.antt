@@ -1,3 +1,4 @@
 pub mod LineLaws
 pub mod RecordLaws
 pub mod EndsLaws
+pub mod MarkLaws

@@ -1,11 +1,12 @@
--- DEFINITIONS. Paper 01's table of refusals. A line is a number under a condition; a call tries its lines in their order, and what it answers and
--- leaves in a buffer is `result unless lines then refusal`. Which lines a call tries stands with the call.
+-- DEFINITIONS. Paper 01's table of refusals, and the lines that requests add. A line is a number under a condition; a call tries its lines in their
+-- order, and what it answers and leaves in a buffer is `result unless lines then refusal`. Which lines a call tries stands with the call.
 use mathlib.Core.Bool.{Bool, true, false, not, _||_}
 use mathlib.Core.List.{List, [], _∷_}
 use Prim.Native.Nat.{ℕ}
 use lib.ListN.{length}
 use lib.Dec.{leb, ltb, eqb}
 use Rattle.words.specs.Words.{mostLetters}
+use Rattle.words.specs.Separated.{isMarked}
 use Rattle.checks.specs.declared.Checked.{Checked}
 use Rattle.checks.specs.declared.Checked.the-variants.{Passed, Refused}
 
@@ -75,3 +76,7 @@ endsLine es n = 7 when faultyEnds es n
 -- "not below the number of ends"
 abbrev pub numberLine : ℕ → ℕ → Line
 numberLine number count = 8 when leb count number
+
+-- request 103: "a test of a record that holds a mark"
+abbrev pub markLine : List ℕ → Line
+markLine w = 9 when isMarked w

@@ -1,8 +1,9 @@
-//! Paper 01's table of refusals: a function for each line. A call puts its admission together from these by `then`, in the table's order, and
-//! passes a refusal up with its number unchanged.
+//! The table of refusals, paper 01's lines and those that requests add: a function for each line. A call puts its admission together from
+//! these by `then`, in the table's order, and passes a refusal up with its number unchanged.
 ghost use mathlib.Core.Path.{_≡_};
 ghost use mathlib.Core.List.{[], _∷_};
-ghost use Rattle.checks.specs.Lines.{_when_, tried, recordLines, workLine, resultLine, rangeLine, startLine, faultyEnds, endsLine, numberLine};
+ghost use Rattle.checks.specs.Lines.{_when_, tried, recordLines, workLine, resultLine, rangeLine, startLine, faultyEnds, endsLine, numberLine, markLine};
+ghost use Rattle.words.specs.Separated.{isMarked};
 ghost use Rattle.checks.specs.Answers.{numberOf, firstOf};
 
 /// The most letters that a record may have.
@@ -120,4 +121,24 @@ pub fn check_number(number: usize, count: usize) -> Checked
     ensures { λ r. ⌜ r ≡ tried (numberLine number count ∷ []) ⌝ }
 {
     Checked::when(8, count <= number)
+}
+
+// Whether the word holds the separator. Every letter is looked at, without a branch, so that the compiler can look at many at once.
+fn is_marked(word: &[u8]) -> bool
+    ensures { λ r. ⌜ r ≡ isMarked (now (word .entry)) ⌝ }
+{
+    let mut marked = false;
+    let mut i: usize = 0;
+    while i < word.len() {
+        marked = marked | (word[i] == words::SEPARATOR);
+        i += 1;
+    }
+    marked
+}
+
+/// Line 9: a record that holds the separator.
+pub fn check_marks(word: &[u8]) -> Checked
+    ensures { λ r. ⌜ r ≡ tried (markLine (now (word .entry)) ∷ []) ⌝ }
+{
+    Checked::when(9, is_marked(word))
 }

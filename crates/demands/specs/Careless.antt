@@ -12,7 +12,8 @@ use Rattle.words.specs.Words.{mostLetters, _≪_, sign}
 use Rattle.words.specs.Words as words
 use Rattle.words.specs.orders.MismatchLaws.{≪-asym}
 use Rattle.words.specs.orders.LexLaws.{≤ₗ-not-≪, <ₗ-≤ₗ}
-use Rattle.words.specs.Factorizations.{icflEnds, icflBreaks, prefixLength}
+use Rattle.words.specs.Factorizations.{prefixLength}
+use Rattle.words.specs.Separated.{mark, separatedIcflEnds, separatedBreaks}
 use Rattle.words.specs.declared.Fate.the-variants.{Joined}
 use Rattle.words.specs.declared.Break.{Break}
 use Rattle.words.specs.Statements.{here, there, Compatible}
@@ -31,14 +32,14 @@ use Rattle.compare.specs.declared.suffixes.Comparison.{Comparison}
 use Rattle.demands.specs.Demands.{Calls, library, Demand1, Demand2, Demand3}
 use Rattle.demands.specs.Meets.{Meets}
 
-abbrev Cut : Type 1
+abbrev pub Cut : Type 1
 Cut = (w work ends : List ℕ) (r : Counted) (work′ ends′ : List ℕ) → Type 0
 
-abbrev ReasonedCut : Type 1
+abbrev pub ReasonedCut : Type 1
 ReasonedCut = (w work ends breaks : List ℕ) (r : CountedBreaks) (work′ ends′ breaks′ : List ℕ) → Type 0
 
 -- the library with other piece cuts, without and with breaks
-abbrev cutters : Cut → ReasonedCut → Calls
+abbrev pub cutters : Cut → ReasonedCut → Calls
 cutters cut reasoned = record {
   Test = library .Test;
   PieceCut = cut;
@@ -50,7 +51,7 @@ cutters cut reasoned = record {
   Summing = library .Summing;
 }
 
-abbrev cutter : Cut → Calls
+abbrev pub cutter : Cut → Calls
 cutter cut = cutters cut (library .ReasonedCut)
 
 abbrev reasoner : ReasonedCut → Calls
@@ -58,7 +59,7 @@ reasoner reasoned = cutters (library .PieceCut) reasoned
 
 -- ---- cutters that are right but for the ends, which are f w
 
-abbrev linesAt : (List ℕ → List ℕ) → List ℕ → ℕ → ℕ → List Line
+abbrev pub linesAt : (List ℕ → List ℕ) → List ℕ → ℕ → ℕ → List Line
 linesAt f w work entries = icflAdmission w work ++ resultLine entries (length (f w)) ∷ []
 
 pub record CutsAt (f : List ℕ → List ℕ) (w work ends : List ℕ) (r : Counted) (work′ ends′ : List ℕ) : Type 0 where
@@ -66,7 +67,7 @@ pub record CutsAt (f : List ℕ → List ℕ) (w work ends : List ℕ) (r : Coun
   pub worked : work′ ≡ cleared (3 * length w) work unless linesAt f w (length work) (length ends) then workAfter (3 * length w) work
 
 -- demand 2 shuts out every one whose ends are not the factorization's
-pub other-ends : (f : List ℕ → List ℕ) (w : List ℕ) → 1 ≤ length w → length w ≤ mostLetters → ¬ (f w ≡ icflEnds w) → ¬ Demand2 (cutter (CutsAt f)) w
+pub other-ends : (f : List ℕ → List ℕ) (w : List ℕ) → 1 ≤ length w → length w ≤ mostLetters → ¬ (f w ≡ separatedIcflEnds w) → ¬ Demand2 (cutter (CutsAt f)) w
 other-ends f w s l n d =
     let work : List ℕ = replicate (3 * length w) 0 in
     let ends : List ℕ = replicate (length (f w)) 0 in
@@ -82,12 +83,12 @@ other-ends f w s l n d =
     let cut : CutsAt f w work ends (Counted.Count (length (f w))) (cleared (3 * length w) work) (written (f w) ends) =
     record { filled = record { answer = rw none refl; result = rw none refl }; worked = rw none refl } in
     let gave = d .pieces work ends _ _ _ cut refl in
-    let same : length (icflEnds w) ≡ length (f w) = sym cc in
+    let same : length (separatedIcflEnds w) ≡ length (f w) = sym cc in
     n (sym (take-at (f w) (drop (length (f w)) ends) (length (f w)) refl) ∙ (rw same at (gave .entries)))
 
 -- 1. "A cutter that gives the whole record as one piece"
 pub whole-record : ¬ Demand2 (cutter (CutsAt (λ w. length w ∷ []))) (a ∷ b ∷ [])
-unfolding icflEnds
+unfolding separatedIcflEnds
 whole-record = other-ends (λ w. length w ∷ []) (a ∷ b ∷ []) (omega arith) (omega arith)
     (λ e. let z : _≡_ {A = ℕ} 2 1 = ap (λ (t : List ℕ). getD t 0 0) e in omega arith)
 
@@ -97,24 +98,24 @@ countUp i [] = []
 countUp i (x ∷ w) = suc i ∷ countUp (suc i) w
 
 pub every-byte : ¬ Demand2 (cutter (CutsAt (countUp 0))) (b ∷ a ∷ [])
-unfolding icflEnds
+unfolding separatedIcflEnds
 every-byte = other-ends (countUp 0) (b ∷ a ∷ []) (omega arith) (omega arith)
     (λ e. let z : _≡_ {A = ℕ} 1 2 = ap (λ (t : List ℕ). getD t 0 0) e in omega arith)
 
 -- 3. "One that finds the first p rightly and makes the rest one piece"
 pub first-p-only : ¬ Demand2 (cutter (CutsAt (λ w. prefixLength w ∷ length w ∷ []))) (a ∷ b ∷ c ∷ [])
-unfolding icflEnds prefixLength
+unfolding separatedIcflEnds prefixLength
 first-p-only = other-ends (λ w. prefixLength w ∷ length w ∷ []) (a ∷ b ∷ c ∷ []) (omega arith) (omega arith)
     (λ e. let z : _≡_ {A = ℕ} 3 2 = ap (λ (t : List ℕ). getD t 1 0) e in omega arith)
 
 -- ---- other cutters, which leave the work buffer alone; only the answer and the ends are looked at
 
-abbrev Answering : ((w : List ℕ) (work entries : ℕ) → Counted) → (List ℕ → List ℕ → List ℕ) → Cut
+abbrev pub Answering : ((w : List ℕ) (work entries : ℕ) → Counted) → (List ℕ → List ℕ → List ℕ) → Cut
 Answering answer after w work ends r work′ ends′ = (r ≡ answer w (length work) (length ends)) × (ends′ ≡ after w ends) × (work′ ≡ work)
 
 -- 4. "One that leaves the buffer alone and reports ends"
-pub buffer-left-alone : ¬ Demand2 (cutter (Answering (λ w work entries. Counted.Count (length (icflEnds w))) (λ w ends. ends))) (a ∷ [])
-unfolding icflEnds
+pub buffer-left-alone : ¬ Demand2 (cutter (Answering (λ w work entries. Counted.Count (length (separatedIcflEnds w))) (λ w ends. ends))) (a ∷ [])
+unfolding separatedIcflEnds
 buffer-left-alone d =
     let gave = d .pieces [] (0 ∷ []) [] (0 ∷ []) (Counted.Count 1) (refl, refl, refl) refl in
     let z : _≡_ {A = ℕ} 0 1 = ap (λ (t : List ℕ). getD t 0 0) (gave .entries) in
@@ -122,19 +123,19 @@ buffer-left-alone d =
 
 -- 5. 'One that says "no space" before counting': 4 where the buffer has fewer entries than the record has letters
 pub no-space : ¬ Demand1 (cutter (Answering
-    (λ w work entries. Counted.Count (length (icflEnds w)) unless icflAdmission w work ++ resultLine entries (length w) ∷ [] then Counted.Refused)
+    (λ w work entries. Counted.Count (length (separatedIcflEnds w)) unless icflAdmission w work ++ resultLine entries (length w) ∷ [] then Counted.Refused)
     (λ w ends. ends)))
-unfolding tried icflEnds
+unfolding tried separatedIcflEnds
 no-space d = not-both refl (d .pieceCut (b ∷ a ∷ []) (replicate 6 0) (0 ∷ []) _ _ (Counted.Refused 4) (refl, refl, refl) .0 .first)
 
 -- 6. "or refuses all"
 pub refuses-all : ¬ Demand1 (cutter (Answering (λ w work entries. Counted.Refused 3) (λ w ends. ends)))
-unfolding tried icflEnds
+unfolding tried separatedIcflEnds
 refuses-all d = not-both refl (d .pieceCut (a ∷ []) (replicate 3 0) (0 ∷ []) _ _ (Counted.Refused 3) (refl, refl, refl) .0 .first)
 
 -- 7. "One that invents the number of pieces"
-pub invented-count : ¬ Demand2 (cutter (Answering (λ w work entries. Counted.Count (length w + 1)) (λ w ends. written (icflEnds w) ends))) (a ∷ [])
-unfolding icflEnds
+pub invented-count : ¬ Demand2 (cutter (Answering (λ w work entries. Counted.Count (length w + 1)) (λ w ends. written (separatedIcflEnds w) ends))) (a ∷ [])
+unfolding separatedIcflEnds
 invented-count d =
     let gave = d .pieces [] (0 ∷ []) [] (1 ∷ []) (Counted.Count 2) (refl, refl, refl) refl in
     let z : _≡_ {A = ℕ} 2 1 = cc in
@@ -153,15 +154,15 @@ reasonedLines f w work ends breaks = icflLines w work ends ++ resultLine breaks 
 
 pub record ReasonsBy (f : List ℕ → List Break) (endLines : List ℕ → (work ends breaks : ℕ) → List Line) (w work ends breaks : List ℕ) (r : CountedBreaks)
     (work′ ends′ breaks′ : List ℕ) : Type 0 where
-  pub answer : r ≡ CountedBreaks.Counts (length (icflEnds w)) (length (f w)) unless reasonedLines f w (length work) (length ends) (length breaks)
+  pub answer : r ≡ CountedBreaks.Counts (length (separatedIcflEnds w)) (length (f w)) unless reasonedLines f w (length work) (length ends) (length breaks)
       then CountedBreaks.Refused
-  pub ends-are : ends′ ≡ written (icflEnds w) ends unless endLines w (length work) (length ends) (length breaks) then (λ number. ends)
+  pub ends-are : ends′ ≡ written (separatedIcflEnds w) ends unless endLines w (length work) (length ends) (length breaks) then (λ number. ends)
   pub breaks-are : breaks′ ≡ written (entriesOf (f w)) breaks unless reasonedLines f w (length work) (length ends) (length breaks) then (λ number. breaks)
   pub worked : work′ ≡ cleared (3 * length w) work unless reasonedLines f w (length work) (length ends) (length breaks) then workAfter (3 * length w) work
 
 -- "A short buffer for them is met by refusal 4, once the ends have been found to fit": one that has written the ends by then
-pub ends-before-breaks-fit : ¬ Demand1 (reasoner (ReasonsBy icflBreaks (λ w work ends breaks. icflLines w work ends)))
-unfolding tried icflEnds icflBreaks
+pub ends-before-breaks-fit : ¬ Demand1 (reasoner (ReasonsBy separatedBreaks (λ w work ends breaks. icflLines w work ends)))
+unfolding tried separatedIcflEnds separatedBreaks
 ends-before-breaks-fit d =
     let told = d .reasonedCut (a ∷ b ∷ []) (replicate 6 0) (0 ∷ 0 ∷ []) [] (replicate 6 0) (1 ∷ 2 ∷ []) [] (CountedBreaks.Refused 4)
     (record { answer = refl; ends-are = refl; breaks-are = refl; worked = refl }) in
@@ -169,14 +170,14 @@ ends-before-breaks-fit d =
     omega arith
 
 -- demand 2 shuts out every one whose breaks are not the factorization's
-pub other-breaks : (f : List ℕ → List Break) (w : List ℕ) → 1 ≤ length w → length w ≤ mostLetters → ¬ (entriesOf (f w) ≡ entriesOf (icflBreaks w))
+pub other-breaks : (f : List ℕ → List Break) (w : List ℕ) → 1 ≤ length w → length w ≤ mostLetters → ¬ (entriesOf (f w) ≡ entriesOf (separatedBreaks w))
     → ¬ Demand2 (reasoner (ReasonsBy f (reasonedLines f))) w
 other-breaks f w s l n d =
     let work : List ℕ = replicate (3 * length w) 0 in
-    let ends : List ℕ = replicate (length (icflEnds w)) 0 in
+    let ends : List ℕ = replicate (length (separatedIcflEnds w)) 0 in
     let breaks : List ℕ = replicate (5 * length (f w)) 0 in
     let size-work : length work ≡ 3 * length w = length-replicate (3 * length w) 0 in
-    let size-ends : length ends ≡ length (icflEnds w) = length-replicate (length (icflEnds w)) 0 in
+    let size-ends : length ends ≡ length (separatedIcflEnds w) = length-replicate (length (separatedIcflEnds w)) 0 in
     let size-breaks : length breaks ≡ 5 * length (f w) = length-replicate (5 * length (f w)) 0 in
     let none : tried (reasonedLines f w (length work) (length ends) (length breaks)) ≡ Passed
     = all-pass (reasonedLines f w (length work) (length ends) (length breaks)) (
@@ -186,17 +187,17 @@ other-breaks f w s l n d =
         (
           le-ltb (length work) (3 * length w) (omega (arith, size-work)),
           (
-            le-ltb (length ends) (length (icflEnds w)) (omega (arith, size-ends)),
+            le-ltb (length ends) (length (separatedIcflEnds w)) (omega (arith, size-ends)),
             (le-ltb (length breaks) (5 * length (f w)) (omega (arith, size-breaks)), search),
           ),
         ),
       ),
     ) in
-    let cut : ReasonsBy f (reasonedLines f) w work ends breaks (CountedBreaks.Counts (length (icflEnds w)) (length (f w)))
-    (cleared (3 * length w) work) (written (icflEnds w) ends) (written (entriesOf (f w)) breaks) =
+    let cut : ReasonsBy f (reasonedLines f) w work ends breaks (CountedBreaks.Counts (length (separatedIcflEnds w)) (length (f w)))
+    (cleared (3 * length w) work) (written (separatedIcflEnds w) ends) (written (entriesOf (f w)) breaks) =
     record { answer = rw none refl; ends-are = rw none refl; breaks-are = rw none refl; worked = rw none refl } in
     let gave = d .reasons work ends breaks _ _ _ _ cut refl in
-    let same : length (icflBreaks w) ≡ length (f w) = sym cc in
+    let same : length (separatedBreaks w) ≡ length (f w) = sym cc in
     let front = take-at (entriesOf (f w)) (drop (length (entriesOf (f w))) breaks) (5 * length (f w)) (length-entries (f w)) in
     n (sym front ∙ (rw same at (gave .breaks)))
 
@@ -204,7 +205,7 @@ other-breaks f w s l n d =
 pub longest-border : (f : List ℕ → List Break) (bs : List Break)
     → f (a ∷ a ∷ a ∷ b ∷ []) ≡ record { place = 2; begun = 0; border = 1; fate = Joined 0 } ∷ bs
     → ¬ Demand2 (reasoner (ReasonsBy f (reasonedLines f))) (a ∷ a ∷ a ∷ b ∷ [])
-unfolding icflBreaks flatten
+unfolding separatedBreaks flatten
 longest-border f bs x = other-breaks f (a ∷ a ∷ a ∷ b ∷ []) (omega arith) (omega arith)
     (λ e. let z : _≡_ {A = ℕ} 2 3 = ap (λ (t : List ℕ). getD t 0 0) (rw x at e) in omega arith)
 
@@ -217,11 +218,14 @@ whole-not-exceeding compare d =
 
 -- "Giving the strict cut as the piece cut: F is one piece": `ba` does not lose to `ba`
 pub strict-not-losing : (compare : ℕ → ℕ → ℕ → ℕ → Comparison) → ¬ Demand3 (b ∷ a ∷ b ∷ a ∷ []) (2 ∷ 4 ∷ []) (2 ∷ 4 ∷ []) compare
-strict-not-losing compare d = let x : (b ∷ a ∷ []) ≪ (b ∷ a ∷ []) = d .loses 0 2 4 here (there here) in ≪-asym x x
+strict-not-losing compare d =
+    let other : ¬ (b ∷ a ∷ [] ≡ mark) = λ e. let z : _≡_ {A = ℕ} 2 1 = ap (λ (t : List ℕ). length t) e in omega arith in
+    let x : (b ∷ a ∷ []) ≪ (b ∷ a ∷ []) = d .loses 0 2 4 here (there here) other other in
+    ≪-asym x x
 
 -- ---- "Trusting the comparison on a stretch that is not whole pieces."
 
-abbrev aboveZero : Comparison → ℕ
+abbrev pub aboveZero : Comparison → ℕ
 aboveZero (Comparison.Sign (pos n)) = n
 aboveZero (Comparison.Sign (negsuc n)) = 0
 aboveZero (Comparison.Refused e) = 0

@@ -4,16 +4,32 @@
 use mathlib.Core.Path.{_≡_}
 use mathlib.Core.Bool.{true, false}
 use mathlib.Core.Logic.{_⊎_}
-use mathlib.Core.List.{List, [], _∷_, _++_, List·Memᴰ}
+use mathlib.Core.List.{List, [], _∷_, _++_, map, List·Memᴰ}
 use Prim.Native.Nat.{ℕ, _-_, _*_, _≤_, _<_}
 use lib.ListN.{length, take, drop, getD, replicate}
 use lib.Seq.{slice}
 use lib.IntN.{ℤ, pos, negsuc}
 use lib.Dec.{eqb}
 use Rattle.words.specs.Words.{mostLetters, _≪_, _⊑_, _<ₗ_, InverseLyndon, AntiLyndon}
-use Rattle.words.specs.Factorizations.{icfl, icflEnds, icflBreaks, cflIn, cflInEnds, lyndonTable, joinFirst, failingLength, prefixLength, borderLength}
+use Rattle.words.specs.Factorizations.{icfl, icflBreaks, breaksFrom, cflIn, lyndonTable, joinFirst, failingLength, prefixLength, borderLength}
 use Rattle.words.specs.declared.Break.{Break}
-use Rattle.words.specs.Statements.{BoundedExtension, BreaksOf, CflInOf, Part, WholePieces, Compatible}
+use Rattle.words.specs.Statements.{BoundedExtension, BreaksOf, DominatedBy, EqualOrAfter, CflInOf, Part, WholePieces, Compatible}
+use Rattle.words.specs.Separated.{
+  separator,
+  mark,
+  Unmarked,
+  UpToSeparator,
+  stretches,
+  between,
+  breaksOver,
+  separatedIcfl,
+  separatedCflIn,
+  separatedTable,
+  separatedIcflEnds,
+  separatedCflInEnds,
+  separatedBreaks,
+}
+use Rattle.words.specs.SeparatedStatements.{UnlessMark, SeparatedOf, moved, endsOver, keptEndsOf, UnmarkedPieces}
 use Rattle.checks.specs.Lines.{Line, tried, decided}
 use Rattle.checks.specs.Answers.{numbered, countChecked}
 use Rattle.checks.specs.declared.Checked.{Checked}
@@ -87,7 +103,7 @@ exported = record {
 }
 
 -- ---- demand 1: "The answer to every call, for every input, is a result or one of eight numbered refusals; .. and paper 01 fixes the condition, the order and
--- every buffer for each refusal."
+-- every buffer for each refusal." Request 103: "Demand 1's eight refusals grow by each number named from here on": 9.
 
 -- a result where no line is met, and otherwise the number of the first that is: one of those that paper 01 gives the call, and never 0
 pub record Answers (numbers : List ℕ) (lines : List Line) (said : Checked) : Type 0 where
@@ -108,7 +124,7 @@ pub record UntouchedBut4 (n : ℕ) (said : Checked) (work work′ : List ℕ) : 
 -- the comparison, the reader and the summary write to no buffer
 pub record Demand1 (c : Calls) : Type 0 where
   pub test : (w work work′ : List ℕ) (r : Extension) → c .Test w work r work′
-      → Answers (1 ∷ 2 ∷ 3 ∷ []) (extensionLines w (length work)) (testChecked r) × Untouched (testChecked r) work work′
+      → Answers (1 ∷ 2 ∷ 3 ∷ 9 ∷ []) (extensionLines w (length work)) (testChecked r) × Untouched (testChecked r) work work′
   pub pieceCut : (w work ends work′ ends′ : List ℕ) (r : Counted) → c .PieceCut w work ends r work′ ends′
       → Answers (1 ∷ 2 ∷ 3 ∷ 4 ∷ []) (icflLines w (length work) (length ends)) (countChecked r) × Untouched (countChecked r) ends ends′
       × UntouchedBut4 (3 * length w) (countChecked r) work work′
@@ -135,45 +151,73 @@ pub record Gave (vs : List ℕ) (r : Counted) (buffer′ : List ℕ) : Type 0 wh
 
 -- the answer is both numbers, and both lists stand at their buffers' fronts
 pub record GaveBoth (w : List ℕ) (r : CountedBreaks) (ends′ breaks′ : List ℕ) : Type 0 where
-  pub counts : r ≡ CountedBreaks.Counts (length (icflEnds w)) (length (icflBreaks w))
-  pub ends : take (length (icflEnds w)) ends′ ≡ icflEnds w
-  pub breaks : take (5 * length (icflBreaks w)) breaks′ ≡ entriesOf (icflBreaks w)
+  pub counts : r ≡ CountedBreaks.Counts (length (separatedIcflEnds w)) (length (separatedBreaks w))
+  pub ends : take (length (separatedIcflEnds w)) ends′ ≡ separatedIcflEnds w
+  pub breaks : take (5 * length (separatedBreaks w)) breaks′ ≡ entriesOf (separatedBreaks w)
+
+-- "The pieces .. are those of the published recursive definition", for a nonempty stretch v
+pub record Published (v : List ℕ) : Type 0 where
+  pub whole : InverseLyndon v → icfl v ≡ v ∷ []
+  pub step : ¬ InverseLyndon v → icfl v ≡ joinFirst (take (prefixLength v) v) (borderLength v) (icfl (drop (prefixLength v) v))
+  -- whose L, |p| and |r| are these
+  pub extension : ¬ InverseLyndon v → BoundedExtension v (failingLength v) (prefixLength v) (borderLength v)
+  -- request 102: "every break the cut considered": they are as it describes them, and no others are
+  pub considered : BreaksOf v (icflBreaks v)
+  pub noOthers : (bs : List Break) → BreaksOf v bs → bs ≡ icflBreaks v
+  -- "the strict pieces are its Lyndon factors in the inverse byte order"
+  pub factors : CflInOf v (cflIn v)
+  pub only : (ls : List (List ℕ)) → CflInOf v ls → ls ≡ cflIn v
 
 pub record Demand2 (c : Calls) (w : List ℕ) : Type 0 where
-  -- "The pieces of a record of 1 to 4,096 bytes are those of the published recursive definition"
-  pub pieces : (work ends work′ ends′ : List ℕ) (r : Counted) → c .PieceCut w work ends r work′ ends′ → countChecked r ≡ Passed → Gave (icflEnds w) r ends′
-  pub whole : InverseLyndon w → icfl w ≡ w ∷ []
-  pub step : ¬ InverseLyndon w → icfl w ≡ joinFirst (take (prefixLength w) w) (borderLength w) (icfl (drop (prefixLength w) w))
-  -- whose L, |p| and |r| are these; and 'the test answers "falling", or "failing" with L, |p| and |r|'
-  pub extension : ¬ InverseLyndon w → BoundedExtension w (failingLength w) (prefixLength w) (borderLength w)
+  -- "The pieces of a record of 1 to 4,096 bytes .."
+  pub pieces : (work ends work′ ends′ : List ℕ) (r : Counted) → c .PieceCut w work ends r work′ ends′ → countChecked r ≡ Passed
+      → Gave (separatedIcflEnds w) r ends′
+  -- request 103: "Each mark is a piece and a strict piece of its own .. Each nonempty stretch between neighbouring marks or the record's edges is cut as a record
+  -- by itself": so it is made, and it is the only list of the kind
+  pub byStretches : separatedIcfl w ≡ between mark (map icfl (stretches w))
+  pub divided : SeparatedOf InverseLyndon DominatedBy w (separatedIcfl w)
+  pub onlyPieces : (ms : List (List ℕ)) → SeparatedOf InverseLyndon DominatedBy w ms → ms ≡ separatedIcfl w
+  -- the stretches are the record without its marks
+  pub joined : between separator (stretches w) ≡ w
+  pub unmarked : (v : List ℕ) → List·Memᴰ v (stretches w) → Unmarked v
+  pub published : (v : List ℕ) → List·Memᴰ v (stretches w) → 0 < length v → Published v
+  -- 'the test answers "falling", or "failing" with L, |p| and |r|'
   pub falls : (work work′ : List ℕ) → c .Test w work Extension.InverseLyndon work′ → InverseLyndon w
   pub fails : (work work′ : List ℕ) (l p r : ℕ) → c .Test w work (Extension.Failing l p r) work′ → BoundedExtension w l p r
-  -- request 102: "gives beside the ends every break the cut considered, and both counts"; they are as it describes them, and no others are
+  -- request 102: "gives beside the ends every break the cut considered, and both counts"
   pub reasons : (work ends breaks work′ ends′ breaks′ : List ℕ) (r : CountedBreaks) → c .ReasonedCut w work ends breaks r work′ ends′ breaks′
       → breaksChecked r ≡ Passed → GaveBoth w r ends′ breaks′
-  pub considered : BreaksOf w (icflBreaks w)
-  pub noOthers : (bs : List Break) → BreaksOf w bs → bs ≡ icflBreaks w
-  -- "the strict pieces are its Lyndon factors in the inverse byte order"
-  pub strictPieces : (ends ends′ : List ℕ) (r : Counted) → c .StrictCut w ends r ends′ → countChecked r ≡ Passed → Gave (cflInEnds w) r ends′
-  pub factors : CflInOf w (cflIn w)
-  pub only : (ls : List (List ℕ)) → CflInOf w ls → ls ≡ cflIn w
-  -- "and the start table holds the length of the longest strict word at each place."
-  pub table : (out out′ : List ℕ) (r : Counted) → c .StartTable w out r out′ → countChecked r ≡ Passed → Gave (lyndonTable w) r out′
-  pub inside : (i : ℕ) → i < length w → getD (lyndonTable w) i 0 ≤ length w - i
-  pub longest : (i : ℕ) → i < length w → AntiLyndon (take (getD (lyndonTable w) i 0) (drop i w))
-  pub noLonger : (i n : ℕ) → i < length w → getD (lyndonTable w) i 0 < n → n ≤ length w - i → ¬ AntiLyndon (take n (drop i w))
+  -- "Breaks are given by stretch, in the record's places": those of a stretch at place i are its own, moved there
+  pub breaksByStretches : separatedBreaks w ≡ breaksOver 0 (stretches w)
+  pub places : (i : ℕ) (v : List ℕ) → breaksFrom i v ≡ map (moved i) (icflBreaks v)
+  -- "The kept breaks and the record's end are exactly the piece ends", with the ends of marks and of nonempty stretches
+  pub keptEnds : separatedIcflEnds w ≡ endsOver keptEndsOf 0 (stretches w)
+  -- "the strict pieces", likewise
+  pub strictPieces : (ends ends′ : List ℕ) (r : Counted) → c .StrictCut w ends r ends′ → countChecked r ≡ Passed → Gave (separatedCflInEnds w) r ends′
+  pub strictByStretches : separatedCflIn w ≡ between mark (map cflIn (stretches w))
+  pub factors : SeparatedOf AntiLyndon EqualOrAfter w (separatedCflIn w)
+  pub only : (ls : List (List ℕ)) → SeparatedOf AntiLyndon EqualOrAfter w ls → ls ≡ separatedCflIn w
+  -- "and the start table holds the length of the longest strict word at each place", 1 at a mark
+  pub table : (out out′ : List ℕ) (r : Counted) → c .StartTable w out r out′ → countChecked r ≡ Passed → Gave (separatedTable w) r out′
+  pub tableByStretches : separatedTable w ≡ between 1 (map lyndonTable (stretches w))
+  pub atMark : (i : ℕ) → getD w i 0 ≡ separator → getD (separatedTable w) i 0 ≡ 1
+  pub inside : (i : ℕ) → i < length w → getD w i 0 < separator → getD (separatedTable w) i 0 ≤ length w - i
+  pub longest : (i : ℕ) → i < length w → getD w i 0 < separator → AntiLyndon (take (getD (separatedTable w) i 0) (drop i w))
+  pub noLonger : (i n : ℕ) → i < length w → getD w i 0 < separator → getD (separatedTable w) i 0 < n → n ≤ length w - i → ¬ AntiLyndon (take n (drop i w))
 
 -- ---- demand 3, for a record w, the ends es that the piece cut wrote, the ends ss that the strict cut wrote, and the comparison's answers
 
 pub record Demand3 (w es ss : List ℕ) (compare : ℕ → ℕ → ℕ → ℕ → Comparison) : Type 0 where
   -- "For every stretch of whole neighbouring pieces and every two different starting minutes inside it, the inverse order found from that stretch alone is
   -- exactly the one found when both run to the record's end."
-  pub compatible : Compatible (WholePieces es) (length w) compare
+  -- Request 103: "The promise about two starting minutes covers stretches without marks".
+  pub compatible : Compatible (UnmarkedPieces w es) (length w) compare
   pub decided : (first end start other : ℕ) → WholePieces es first end → first ≤ start → start < end → first ≤ other → other < end → ¬ (start ≡ other)
       → (compare first end start other ≡ Comparison.Sign (negsuc 0)) ⊎ (compare first end start other ≡ Comparison.Sign (pos 1))
-  -- "In natural byte order each piece exceeds every shorter ending of its own, and each but the last loses to the next piece at a byte that both have."
+  -- "In natural byte order each piece exceeds every shorter ending of its own, and each but the last loses to the next piece at a byte that both have." Request
+  -- 103: "a piece is measured against the next only where neither is a mark".
   pub exceeds : (i j : ℕ) → Part es i j → (u s : List ℕ) → u ++ s ≡ slice i j w → 0 < length u → 0 < length s → s <ₗ slice i j w
-  pub loses : (i j k : ℕ) → Part es i j → Part es j k → slice i j w ≪ slice j k w
+  pub loses : (i j k : ℕ) → Part es i j → Part es j k → UnlessMark _≪_ (slice i j w) (slice j k w)
   -- "Every piece ends where a strict piece ends, and wherever a strict piece and the one after it lie in one piece, the first begins with the whole of the
   -- second."
   pub strict : (e : ℕ) → List·Memᴰ e es → List·Memᴰ e ss
@@ -183,6 +227,7 @@ pub record Demand3 (w es ss : List ℕ) (compare : ℕ → ℕ → ℕ → ℕ �
 pub record Runs (c : Calls) (w es ss : List ℕ) (compare : ℕ → ℕ → ℕ → ℕ → Comparison) : Type 0 where
   pub nonempty : 1 ≤ length w
   pub short : length w ≤ mostLetters
+  pub bytes : UpToSeparator w
   pub pieceCut : (work ends work′ ends′ : List ℕ) × (n : ℕ) × c .PieceCut w work ends (Counted.Count n) work′ ends′ × (es ≡ take n ends′)
   pub strictCut : (ends ends′ : List ℕ) × (n : ℕ) × c .StrictCut w ends (Counted.Count n) ends′ × (ss ≡ take n ends′)
   pub comparison : (first end start other : ℕ) → c .Comparing w first end start other (compare first end start other)
@@ -193,4 +238,4 @@ pub record Demands (c : Calls) : Type 0 where
   pub first : Demand1 c
   pub second : (w : List ℕ) → 1 ≤ length w → length w ≤ mostLetters → Demand2 c w
   pub third : (w es ss : List ℕ) (compare : ℕ → ℕ → ℕ → ℕ → Comparison) → Runs c w es ss compare → Demand3 w es ss compare
-  pub given : (w : List ℕ) → 1 ≤ length w → length w ≤ mostLetters → (es ss : List ℕ) × (compare : ℕ → ℕ → ℕ → ℕ → Comparison) × Runs c w es ss compare
+  pub given : (w : List ℕ) → 1 ≤ length w → length w ≤ mostLetters → UpToSeparator w → (es ss : List ℕ) × (compare : ℕ → ℕ → ℕ → ℕ → Comparison) × Runs c w es ss compare

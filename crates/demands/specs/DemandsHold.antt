@@ -6,13 +6,14 @@ use mathlib.Core.Logic.{_⊎_, inl, inr}
 use mathlib.Core.List.{List, List·Memᴰ}
 use Prim.Native.Nat.{ℕ, zero, suc, _*_, _≤_, _<_}
 use native.Mathlib.Omega.{arith}
-use lib.ListN.{length, drop, replicate, length-drop, length-replicate}
+use lib.ListN.{length, drop, getD, replicate, length-drop, length-replicate}
 use lib.Seq.{take-at, drop-at}
 use lib.IntN.{ℤ, pos, negsuc}
 use lib.Dec.{ltb}
 use borrow.Author.Tests.{ne-eqb}
 use Rattle.words.specs.Words.{mostLetters, InverseLyndon, sign}
-use Rattle.words.specs.Factorizations.{icfl, icflEnds, icflBreaks, cflInEnds}
+use Rattle.words.specs.Separated.{separator, separatedIcfl, separatedCflIn, separatedTable, separatedIcflEnds, separatedCflInEnds, separatedBreaks}
+use Rattle.words.specs.SeparatedStatements.{UnmarkedPieces, SeparatedDemand3}
 use Rattle.words.specs.Statements.{BoundedExtension, WholePieces}
 use Rattle.words.specs.lyndon.AntiLyndonLaws.{longest-is, longest-positive}
 use Rattle.words.specs.icfl.BoundedExtension.{extension-is}
@@ -21,10 +22,22 @@ use Rattle.words.specs.breaks.BreaksOnly.{breaks-only}
 use Rattle.words.specs.uniqueness.IcflUnfold.{icfl-whole, icfl-step}
 use Rattle.words.specs.cfl_in.CflInIs.{cfl-in-is}
 use Rattle.words.specs.cfl_in.CflInUnique.{cfl-in-unique}
-use Rattle.words.specs.table.LyndonTableCflIn.{lyndon-table-length, lyndon-table-at}
-use Rattle.words.specs.places.Ends.{ends-boundary}
+use Rattle.words.specs.Factorizations.{longestAntiLyndon}
+use Rattle.words.specs.table.LyndonTableCflIn.{lyndon-table-at}
 use Rattle.words.specs.orders.SignLaws.{SignOf, before, equal, after, sign-is}
-use Rattle.words.specs.places.Demand3 as theory
+use Rattle.words.specs.places.Parts.{rises-below}
+use Rattle.words.specs.stretches.Separation.{stretches-joined, stretches-unmarked}
+use Rattle.words.specs.stretches.StretchBreaks.{breaks-moved}
+use Rattle.words.specs.stretches.StretchEnds.{separated-kept-ends}
+use Rattle.words.specs.stretches.Factors.{
+  separated-icfl-is,
+  separated-icfl-unique,
+  separated-cfl-in-is,
+  separated-cfl-in-unique,
+  separated-icfl-ends-rise,
+}
+use Rattle.words.specs.stretches.TableEntries.{separated-table-letter, separated-table-separator, separated-table-length}
+use Rattle.words.specs.stretches.SeparatedDemand3.{separated-demand-3}
 use Rattle.buffers.specs.Buffers.{cleared}
 use Rattle.checks.specs.Lines.{Line, tried, decided, _unless_then_}
 use Rattle.checks.specs.Answers.{numbered, numberOf, countChecked, Filled}
@@ -44,7 +57,22 @@ use Rattle.compare.specs.declared.suffixes.Comparison.{Comparison}
 use Rattle.compare.specs.Compare.{signChecked, compareLines}
 use Rattle.compare.proofs.ComparisonLaws.{Within, within-passes}
 use Rattle.summary.specs.Summary.{summaryLines, summaryOf, emptySummary}
-use Rattle.demands.specs.Demands.{Calls, library, exported, Answers, Untouched, UntouchedBut4, Demand1, Gave, GaveBoth, Demand2, Demand3, Runs, Demands}
+use Rattle.demands.specs.Demands.{
+  Calls,
+  library,
+  exported,
+  Answers,
+  Untouched,
+  UntouchedBut4,
+  Demand1,
+  Gave,
+  GaveBoth,
+  Published,
+  Demand2,
+  Demand3,
+  Runs,
+  Demands,
+}
 use Rattle.demands.specs.Meets.{Meets, Total, library-meets, library-total, exported-meets, exported-total}
 use Rattle.demands.specs.RunsExist.{runs-exist}
 
@@ -78,7 +106,7 @@ breaks-say : {w work ends breaks work′ ends′ breaks′ : List ℕ} {r : Coun
     → breaksChecked r ≡ tried (breaksLines w (length work) (length ends) (length breaks))
 breaks-say {w} {work} {ends} {breaks} f =
     let lines = breaksLines w (length work) (length ends) (length breaks) in
-    let result = CountedBreaks.Counts (length (icflEnds w)) (length (icflBreaks w)) in
+    let result = CountedBreaks.Counts (length (separatedIcflEnds w)) (length (separatedBreaks w)) in
     ap breaksChecked (f .answer) ∙ said breaksChecked result (λ (i : ℕ). CountedBreaks.Refused i) refl (λ number. refl) (tried lines)
 
 -- a buffer that is changed only where no line is met
@@ -152,8 +180,8 @@ gave-both w work ends breaks work′ ends′ breaks′ r f e =
     let none : tried (breaksLines w (length work) (length ends) (length breaks)) ≡ Passed = sym (breaks-say f) ∙ e in
     record {
       counts = rw none at (f .answer);
-      ends = rw (rw none at (f .ends-are)) (take-at (icflEnds w) (drop (length (icflEnds w)) ends) (length (icflEnds w)) refl);
-      breaks = rw (rw none at (f .breaks-are)) (take-at (entriesOf (icflBreaks w)) _ (5 * length (icflBreaks w)) (length-entries (icflBreaks w)));
+      ends = rw (rw none at (f .ends-are)) (take-at (separatedIcflEnds w) (drop (length (separatedIcflEnds w)) ends) (length (separatedIcflEnds w)) refl);
+      breaks = rw (rw none at (f .breaks-are)) (take-at (entriesOf (separatedBreaks w)) _ (5 * length (separatedBreaks w)) (length-entries (separatedBreaks w)));
     }
 
 -- a test that gave a result answers the verdict
@@ -168,36 +196,59 @@ verdict-fails w work work′ l p r s f =
     let told = fails-told w l p r s (verdict-is w work work′ (Extension.Failing l p r) f refl) in
     rw (told .failing, told .prefix, told .border) (extension-is w s (told .not))
 
+published : (v : List ℕ) → 0 < length v → Published v
+published v s = record {
+  whole = icfl-whole v;
+  step = icfl-step v s;
+  extension = extension-is v s;
+  considered = icfl-breaks v s;
+  noOthers = breaks-only v;
+  factors = cfl-in-is v;
+  only = cfl-in-unique v;
+}
+
+-- at a letter below the separator the entry is the longest anti-Lyndon word of the whole rest
+entry-at : (w : List ℕ) (i : ℕ) → i < length w → getD w i 0 < separator → getD (separatedTable w) i 0 ≡ longestAntiLyndon (drop i w)
+entry-at w i l h = separated-table-letter w i h ∙ lyndon-table-at w i l
+
 module _ (c : Calls) (m : Meets c) (w : List ℕ) (s : 1 ≤ length w) where
   pub demand-2 : length w ≤ mostLetters → Demand2 c w
+  unfolding separatedIcfl separatedCflIn separatedTable separatedBreaks
   demand-2 q = record {
     pieces = λ work ends work′ ends′ r h. gave refl (m .pieceCut w work ends r work′ ends′ h .filled);
-    whole = icfl-whole w;
-    step = icfl-step w s;
-    extension = extension-is w s;
+    byStretches = refl;
+    divided = separated-icfl-is w;
+    onlyPieces = separated-icfl-unique w;
+    joined = stretches-joined w;
+    unmarked = stretches-unmarked w;
+    published = λ v h. published v;
     falls = λ work work′ h.
         holds-told w Extension.InverseLyndon (inl refl) (verdict-is w work work′ Extension.InverseLyndon (m .test w work Extension.InverseLyndon work′ h) refl);
     fails = λ work work′ l p r h. verdict-fails w work work′ l p r s (m .test w work (Extension.Failing l p r) work′ h);
     reasons = λ work ends breaks work′ ends′ breaks′ r h.
         gave-both w work ends breaks work′ ends′ breaks′ r (m .reasonedCut w work ends breaks r work′ ends′ breaks′ h);
-    considered = icfl-breaks w s;
-    noOthers = breaks-only w;
+    breaksByStretches = refl;
+    places = breaks-moved;
+    keptEnds = separated-kept-ends w;
     strictPieces = λ ends ends′ r h. gave refl (m .strictCut w ends r ends′ h);
-    factors = cfl-in-is w;
-    only = cfl-in-unique w;
-    table = λ out out′ r h. gave (sym (lyndon-table-length w)) (m .startTable w out r out′ h);
-    inside = λ i l. rw (lyndon-table-at w i l, ← length-drop i w) (longest-is (drop i w) .upto);
-    longest = λ i l. rw (lyndon-table-at w i l) (longest-is (drop i w) .word (longest-positive (drop i w) (rw length-drop (omega arith))));
-    noLonger = λ i n l a b. longest-is (drop i w) .longer n (rw (lyndon-table-at w i l) at a) (rw length-drop b);
+    strictByStretches = refl;
+    factors = separated-cfl-in-is w;
+    only = separated-cfl-in-unique w;
+    table = λ out out′ r h. gave (sym (separated-table-length w)) (m .startTable w out r out′ h);
+    tableByStretches = refl;
+    atMark = separated-table-separator w;
+    inside = λ i l h. rw (entry-at w i l h, ← length-drop i w) (longest-is (drop i w) .upto);
+    longest = λ i l h. rw (entry-at w i l h) (longest-is (drop i w) .word (longest-positive (drop i w) (rw length-drop (omega arith))));
+    noLonger = λ i n l h a b. longest-is (drop i w) .longer n (rw (entry-at w i l h) at a) (rw length-drop b);
   }
 
 -- ---- demand 3
 
 module _ (c : Calls) (m : Meets c) (w es ss : List ℕ) (compare : ℕ → ℕ → ℕ → ℕ → Comparison) (r : Runs c w es ss compare) where
-  pieces-are : es ≡ icflEnds w
+  pieces-are : es ≡ separatedIcflEnds w
   pieces-are = let q = r .pieceCut in q .6 ∙ filled-front (m .pieceCut w _ _ _ _ _ (q .5) .filled) .0
 
-  strict-are : ss ≡ cflInEnds w
+  strict-are : ss ≡ separatedCflInEnds w
   strict-are = let q = r .strictCut in q .4 ∙ filled-front (m .strictCut w _ _ _ (q .3)) .0
 
   -- inside an accepted range the comparison answers the sign
@@ -207,14 +258,15 @@ module _ (c : Calls) (m : Meets c) (w es ss : List ℕ) (compare : ℕ → ℕ �
       let within : Within w first end start other = record { short = r .short; inside = l; start-from = a; start-below = b; other-from = p; other-below = d } in
       m .comparison w first end start other _ (r .comparison first end start other) .answer ∙ rw (within-passes w first end start other within)
 
-  module _ (first end start other : ℕ) (g : WholePieces es first end) (a : first ≤ start) (b : start < end) (p : first ≤ other) (d : other < end)
-      (n : ¬ (start ≡ other)) where
-    inside : end ≤ length w
-    unfolding icflEnds
-    inside = theory.icfl-inside w end (ends-boundary (icfl w) (rw pieces-are at (g .1)))
+  theory : SeparatedDemand3 w
+  theory = separated-demand-3 w (r .bytes)
 
-    sign-decided : (compare first end start other ≡ Comparison.Sign (negsuc 0)) ⊎ (compare first end start other ≡ Comparison.Sign (pos 1))
-    sign-decided = go (sign-is w first end start other) (signs first end start other inside a b p d)
+  module _ (first end start other : ℕ) (a : first ≤ start) (b : start < end) (p : first ≤ other) (d : other < end) (n : ¬ (start ≡ other)) where
+    inside : WholePieces es first end → end ≤ length w
+    inside g = rises-below (separated-icfl-ends-rise w) (rw pieces-are at (g .1))
+
+    sign-decided : WholePieces es first end → (compare first end start other ≡ Comparison.Sign (negsuc 0)) ⊎ (compare first end start other ≡ Comparison.Sign (pos 1))
+    sign-decided g = go (sign-is w first end start other) (signs first end start other (inside g) a b p d)
       where
         go : {s : ℤ} → SignOf w first end start other s → compare first end start other ≡ Comparison.Sign s
             → (compare first end start other ≡ Comparison.Sign (negsuc 0)) ⊎ (compare first end start other ≡ Comparison.Sign (pos 1))
@@ -222,21 +274,22 @@ module _ (c : Calls) (m : Meets c) (w es ss : List ℕ) (compare : ℕ → ℕ �
         go (equal z) e = absurd (n z)
         go (after x k) e = inr e
 
-    same-sign : compare first end start other ≡ compare 0 (length w) start other
-    same-sign =
-        let t = theory.demand-3 w .compatible first end start other (rw pieces-are at g) a b p d n in
-        signs first end start other inside a b p d
+    same-sign : UnmarkedPieces w es first end → compare first end start other ≡ compare 0 (length w) start other
+    same-sign g =
+        let t = theory .compatible first end start other (rw pieces-are at g) a b p d n in
+        let l : end ≤ length w = inside (g .0) in
+        signs first end start other l a b p d
         ∙ (ap (λ (s : ℤ). Comparison.Sign s) t
-        ∙ sym (signs 0 (length w) start other (omega arith) (omega arith) (omega (arith, inside)) (omega arith) (omega (arith, inside))))
+        ∙ sym (signs 0 (length w) start other (omega arith) (omega arith) (omega arith) (omega arith) (omega arith)))
 
   pub demand-3 : Demand3 w es ss compare
   demand-3 = record {
-    compatible = same-sign;
-    decided = sign-decided;
-    exceeds = rw pieces-are (theory.demand-3 w .exceeds);
-    loses = rw pieces-are (theory.demand-3 w .loses);
-    strict = rw (pieces-are, strict-are) (theory.demand-3 w .strict);
-    nested = rw (pieces-are, strict-are) (theory.demand-3 w .nested);
+    compatible = λ first end start other g a b p d n. same-sign first end start other a b p d n g;
+    decided = λ first end start other g a b p d n. sign-decided first end start other a b p d n g;
+    exceeds = rw pieces-are (theory .exceeds);
+    loses = rw pieces-are (theory .loses);
+    strict = rw (pieces-are, strict-are) (theory .strict);
+    nested = rw (pieces-are, strict-are) (theory .nested);
   }
 
 -- ---- the library's calls, and the exported functions
@@ -246,7 +299,7 @@ demands c m t = record {
   first = demand-1 c m;
   second = λ w s l. demand-2 c m w s l;
   third = demand-3 c m;
-  given = λ w s l. runs-exist w s l c m t;
+  given = λ w s l up. runs-exist w s l c m t up;
 }
 
 pub library-demands : Demands library

@@ -1,9 +1,11 @@
 -- The customer's demands. Demands has the statements, DemandsHold the theorems: library-demands and exported-demands.
---   Meets       the answers of the library's calls and of the exported functions meet the promises
---   RunsExist   for every record there is what demand 3 speaks of
---   Careless    paper 01's careless cutters, two careless cuts with breaks, and the demand that shuts each of them out
+--   Meets            the answers of the library's calls and of the exported functions meet the promises
+--   RunsExist        for every record there is what demand 3 speaks of
+--   Careless         paper 01's careless cutters, two careless cuts with breaks, and the demand that shuts each of them out
+--   CarelessMarks    cuts and tests that are careless of marks, likewise
 pub mod Demands
 pub mod Meets
 pub mod RunsExist
 pub mod DemandsHold
 pub mod Careless
+pub mod CarelessMarks

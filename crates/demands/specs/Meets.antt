@@ -11,7 +11,8 @@ use lib.IntN.{ℤ}
 use lib.Dec.{eqb, ltb}
 use borrow.Author.Tests.{ne-eqb}
 use Rattle.words.specs.Words.{InverseLyndon, isInverseLyndon, sign}
-use Rattle.words.specs.Factorizations.{failingLength, prefixLength, borderLength, icflEnds, icflBreaks}
+use Rattle.words.specs.Factorizations.{failingLength, prefixLength, borderLength}
+use Rattle.words.specs.Separated.{separatedIcflEnds, separatedBreaks}
 use Rattle.words.specs.orders.Decisions.{decides-false}
 use Rattle.words.specs.lyndon.WordTests.{inverse-lyndon-test}
 use Rattle.words.specs.icfl.Failing.{failing-is}
@@ -98,7 +99,7 @@ breaks-by : (w work ends breaks : List ℕ) {e n k : ℕ} {work′ ends′ break
     → BreaksNumbers w work ends breaks e n k work′ ends′ breaks′ → r ≡ countsBy e n k → BreaksDone w work ends breaks r work′ ends′ breaks′
 breaks-by w work ends breaks {n = n} {k = k} f z =
     let lines = breaksLines w (length work) (length ends) (length breaks) in
-    let result = CountedBreaks.Counts (length (icflEnds w)) (length (icflBreaks w)) in
+    let result = CountedBreaks.Counts (length (separatedIcflEnds w)) (length (separatedBreaks w)) in
     record {
       answer = z ∙ back lines refl result (CountedBreaks.Counts n k) (λ (i : ℕ). CountedBreaks.Refused i) (f .refusal)
           (λ h. rw (rw h at (f .count-is), rw h at (f .breaks-count)));

@@ -12,10 +12,12 @@ use mir.Val.{toZ, ofZ}
 use types.Run.{OneOf}
 use denote.Enum.Declared.{tagOf}
 use Rattle.words.specs.Words.{mostLetters, sign}
-use Rattle.words.specs.Factorizations.{failingLength, prefixLength, borderLength, icflEnds, icflBreaks}
-use Rattle.words.specs.breaks.IcflBreaks.{icfl-breaks}
+use Rattle.words.specs.Factorizations.{failingLength, prefixLength, borderLength}
+use Rattle.words.specs.Separated.{separatedIcflEnds, separatedBreaks}
 use Rattle.words.specs.orders.SignLaws.{SignOf, before, equal, after, sign-is}
-use Rattle.words.specs.places.EndsRise.{rises-few, icfl-ends-rise, cfl-in-ends-rise}
+use Rattle.words.specs.places.EndsRise.{rises-few}
+use Rattle.words.specs.stretches.Factors.{separated-icfl-ends-rise, separated-cfl-in-ends-rise}
+use Rattle.words.specs.stretches.StretchBreaks.{separated-breaks-few}
 use Rattle.checks.specs.Lines.{Line, tried, decided, recordLines}
 use Rattle.checks.specs.Answers.{numberOf, Filled}
 use Rattle.checks.specs.declared.Checked.{Checked}
@@ -59,10 +61,10 @@ small w lines {n} l f = rw (f .answer) (go (tried (recordLines w ++ lines)) refl
     go (Refused number) z = tt
 
 pub icfl-small : (w work ends work′ ends′ : List ℕ) (r : Counted) → IcflDone w work ends r work′ ends′ → Small r
-icfl-small w work ends work′ ends′ r f = small w _ (omega (arith, rises-few (icfl-ends-rise w))) (f .filled)
+icfl-small w work ends work′ ends′ r f = small w _ (omega (arith, rises-few (separated-icfl-ends-rise w))) (f .filled)
 
 pub cfl-in-small : (w ends ends′ : List ℕ) (r : Counted) → CflInDone w ends r ends′ → Small r
-cfl-in-small w ends ends′ r f = small w _ (omega (arith, rises-few (cfl-in-ends-rise w))) f
+cfl-in-small w ends ends′ r f = small w _ (omega (arith, rises-few (separated-cfl-in-ends-rise w))) f
 
 pub table-small : (w out out′ : List ℕ) (r : Counted) → Tabled w out r out′ → Small r
 table-small w out out′ r f = small w _ (omega arith) f
@@ -85,7 +87,7 @@ module _ (w work ends breaks work′ ends′ breaks′ : List ℕ) where
   pub breaks-numbers : (r : CountedBreaks) → BreaksDone w work ends breaks r work′ ends′ breaks′
       → BreaksNumbers w work ends breaks (numberOf (breaksChecked r)) (factorsOf r) (breaksOf r) work′ ends′ breaks′
   breaks-numbers r f =
-      let counts : CountedBreaks = CountedBreaks.Counts (length (icflEnds w)) (length (icflBreaks w)) in
+      let counts : CountedBreaks = CountedBreaks.Counts (length (separatedIcflEnds w)) (length (separatedBreaks w)) in
       let refusal : ℕ → CountedBreaks = λ i. CountedBreaks.Refused i in
       record {
         refusal = ap (λ t. numberOf (breaksChecked t)) (f .answer) ∙ reading (λ t. numberOf (breaksChecked t)) counts refusal (tried lines);
@@ -101,13 +103,13 @@ module _ (w work ends breaks work′ ends′ breaks′ : List ℕ) where
   breaks-small n m f = go (tried lines) refl (f .answer)
     where
       go : (k : Checked) → tried lines ≡ k
-          → CountedBreaks.Counts n m ≡ decided k (CountedBreaks.Counts (length (icflEnds w)) (length (icflBreaks w))) CountedBreaks.Refused
+          → CountedBreaks.Counts n m ≡ decided k (CountedBreaks.Counts (length (separatedIcflEnds w)) (length (separatedBreaks w))) CountedBreaks.Refused
           → (n ≤ mostLetters) × (m ≤ mostLetters)
       go Passed z x =
           let a = accepted w _ z in
-          let p : n ≡ length (icflEnds w) = cc in
-          let q : m ≡ length (icflBreaks w) = cc in
-          (omega (arith, p, rises-few (icfl-ends-rise w), a .short), omega (arith, q, icfl-breaks w (a .nonempty) .few, a .short))
+          let p : n ≡ length (separatedIcflEnds w) = cc in
+          let q : m ≡ length (separatedBreaks w) = cc in
+          (omega (arith, p, rises-few (separated-icfl-ends-rise w), a .short), omega (arith, q, separated-breaks-few w, a .short))
       go (Refused number) z x = let b : _≡_ {A = ℕ} 0 1 = cc in absurd (omega arith)
 
 -- ---- the test

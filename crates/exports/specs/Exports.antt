@@ -7,7 +7,8 @@ use Prim.Native.Nat.{ℕ, _*_, _<_}
 use lib.ListN.{length, getD}
 use lib.IntN.{ℤ, pos}
 use Rattle.words.specs.Words.{isInverseLyndon, sign}
-use Rattle.words.specs.Factorizations.{failingLength, prefixLength, borderLength, icflEnds, icflBreaks, cflInEnds, lyndonTable}
+use Rattle.words.specs.Factorizations.{failingLength, prefixLength, borderLength}
+use Rattle.words.specs.Separated.{separatedIcflEnds, separatedBreaks, separatedCflInEnds, separatedTable}
 use Rattle.buffers.specs.Buffers.{cleared, written}
 use Rattle.checks.specs.Lines.{Line, tried, _unless_then_}
 use Rattle.checks.specs.Answers.{numberOf}
@@ -41,22 +42,22 @@ pub record FilledNumbers (lines : List Line) (n : ℕ) (vs buffer : List ℕ) (r
   pub result : buffer′ ≡ written vs buffer unless lines then (λ number. buffer)
 
 pub record IcflNumbers (w work ends : List ℕ) (r count : ℕ) (work′ ends′ : List ℕ) : Type 0 where
-  pub filled : FilledNumbers (icflLines w (length work) (length ends)) (length (icflEnds w)) (icflEnds w) ends r count ends′
+  pub filled : FilledNumbers (icflLines w (length work) (length ends)) (length (separatedIcflEnds w)) (separatedIcflEnds w) ends r count ends′
   pub worked : work′ ≡ cleared (3 * length w) work unless icflLines w (length work) (length ends) then workAfter (3 * length w) work
 
 pub record BreaksNumbers (w work ends breaks : List ℕ) (r count breakCount : ℕ) (work′ ends′ breaks′ : List ℕ) : Type 0 where
   pub refusal : r ≡ numberOf (tried (breaksLines w (length work) (length ends) (length breaks)))
-  pub count-is : count ≡ length (icflEnds w) unless breaksLines w (length work) (length ends) (length breaks) then (λ number. 0)
-  pub breaks-count : breakCount ≡ length (icflBreaks w) unless breaksLines w (length work) (length ends) (length breaks) then (λ number. 0)
-  pub ends-are : ends′ ≡ written (icflEnds w) ends unless breaksLines w (length work) (length ends) (length breaks) then (λ number. ends)
-  pub breaks-are : breaks′ ≡ written (entriesOf (icflBreaks w)) breaks unless breaksLines w (length work) (length ends) (length breaks) then (λ number. breaks)
+  pub count-is : count ≡ length (separatedIcflEnds w) unless breaksLines w (length work) (length ends) (length breaks) then (λ number. 0)
+  pub breaks-count : breakCount ≡ length (separatedBreaks w) unless breaksLines w (length work) (length ends) (length breaks) then (λ number. 0)
+  pub ends-are : ends′ ≡ written (separatedIcflEnds w) ends unless breaksLines w (length work) (length ends) (length breaks) then (λ number. ends)
+  pub breaks-are : breaks′ ≡ written (entriesOf (separatedBreaks w)) breaks unless breaksLines w (length work) (length ends) (length breaks) then (λ number. breaks)
   pub worked : work′ ≡ cleared (3 * length w) work unless breaksLines w (length work) (length ends) (length breaks) then workAfter (3 * length w) work
 
 abbrev pub CflInNumbers : List ℕ → List ℕ → ℕ → ℕ → List ℕ → Type 0
-CflInNumbers w ends r count ends′ = FilledNumbers (cflInLines w (length ends)) (length (cflInEnds w)) (cflInEnds w) ends r count ends′
+CflInNumbers w ends r count ends′ = FilledNumbers (cflInLines w (length ends)) (length (separatedCflInEnds w)) (separatedCflInEnds w) ends r count ends′
 
 abbrev pub TableNumbers : List ℕ → List ℕ → ℕ → ℕ → List ℕ → Type 0
-TableNumbers w out r count out′ = FilledNumbers (tableLines w (length out)) (length w) (lyndonTable w) out r count out′
+TableNumbers w out r count out′ = FilledNumbers (tableLines w (length out)) (length w) (separatedTable w) out r count out′
 
 pub record SignNumber (w : List ℕ) (first end start other r : ℕ) (s : ℤ) : Type 0 where
   pub refusal : r ≡ numberOf (tried (compareLines w first end start other))

@@ -9,7 +9,7 @@ use Rattle.words.specs.Factorizations.{failingLength, prefixLength, borderLengt
 use Rattle.words.specs.scan.Scanned.{Scanned}
 use Rattle.words.specs.scan.ScannedBorders.{Table}
 use Rattle.buffers.specs.Buffers.{cleared}
-use Rattle.checks.specs.Lines.{Line, _unless_then_, recordLines, workLine}
+use Rattle.checks.specs.Lines.{Line, _unless_then_, recordLines, workLine, markLine}
 use Rattle.checks.specs.declared.Checked.{Checked}
 use Rattle.scan.specs.State.{Rests}
 use Rattle.scan.specs.declared.Scan.{Scan}
@@ -30,9 +30,9 @@ testChecked InverseLyndon = Checked.Passed
 testChecked (Failing failing prefix border) = Checked.Passed
 testChecked (Refused number) = Checked.Refused number
 
--- the lines of the table that the test tries: 1, 2 and 3
+-- the lines of the table that the test tries: 1, 2 and 3, and "9, a test of a record that holds a mark, after 3"
 abbrev pub extensionLines : List ℕ → ℕ → List Line
-extensionLines w entries = recordLines w ++ workLine entries (length w) ∷ []
+extensionLines w entries = recordLines w ++ workLine entries (length w) ∷ markLine w ∷ []
 
 -- the call's promise: its answer; and "after an accepted .. test .. the entries counted in line 3 are zero and later ones unchanged", untouched by a refusal
 pub record ExtensionFound (w work : List ℕ) (r : Extension) (work′ : List ℕ) : Type 0 where

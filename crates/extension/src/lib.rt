@@ -54,7 +54,8 @@ fn shortest_border(word: &[u8], table: &[u16], at: usize, longest: usize) -> usi
     border
 }
 
-/// The verdict on a word that was accepted. It uses the first entries of `work`, as many as the word has letters.
+/// The verdict on a word that was accepted; the separator is a letter as any other here, and nothing is refused. It uses the first entries of
+/// `work`, as many as the word has letters.
 pub fn extension_of(word: &[u8], work: &mut [u16]) -> Extension
     requires { ⌜ TestRoom (now word) (now work) ⌝ }
     ensures { λ r. ⌜ Verdict (now (word .entry)) (now (work .entry)) r (now (work .exit)) ⌝ }
@@ -73,14 +74,19 @@ pub fn extension_of(word: &[u8], work: &mut [u16]) -> Extension
     }
 }
 
-// Lines 1, 2 and 3.
+// Lines 1, 2, 3 and 9. The letters are looked at only past the others, since a record that line 2 refuses may be of any length.
 fn admit(word: &[u8], entries: usize) -> Checked
     ensures { λ r. ⌜ r ≡ tried (extensionLines (now (word .entry)) entries) ⌝ }
 {
-    checks::check_record(word).then(checks::check_work(entries, word.len()))
+    let admitted = checks::check_record(word).then(checks::check_work(entries, word.len()));
+    let Checked::Passed = admitted else {
+        return admitted;
+    };
+    checks::check_marks(word)
 }
 
-/// The test. Refusals 1, 2, 3; after a result the first entries of `work`, as many as the word has letters, are zero.
+/// The test. Refusals 1, 2, 3, 9; after a result the first entries of `work`, as many as the word has letters, are zero, and a refusal leaves
+/// it as it was.
 pub fn find_extension(word: &[u8], work: &mut [u16]) -> Extension
     ensures { λ r. ⌜ ExtensionFound (now (word .entry)) (now (work .entry)) r (now (work .exit)) ⌝ }
 {

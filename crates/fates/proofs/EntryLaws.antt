@@ -1,7 +1,9 @@
--- The entries of breaks: five stores are a break's entries (kept-stored, joined-stored); all entries, one break after another (entries-next, length-entries).
+-- The entries of breaks: five stores are a break's entries (kept-stored, joined-stored); those of a cut, by whether it is a break (no-break-written,
+-- break-written); all entries, one break after another (entries-next, length-entries).
 use mathlib.Core.Path.{_≡_, refl, ap, _∙_}
-use mathlib.Core.List.{List, [], _∷_, _++_, flatten}
-use Prim.Native.Nat.{ℕ, suc, _+_, _*_}
+use mathlib.Core.Bool.{Bool, true, false}
+use mathlib.Core.List.{List, [], _∷_, _++_, append-nil, flatten}
+use Prim.Native.Nat.{ℕ, suc, _+_, _*_, _≤_}
 use native.Mathlib.Omega.{arith}
 use native.Mathlib.Numerals.{add-one, add-two, add-three, add-four}
 use lib.ListN.{length, set, length-append}
@@ -9,7 +11,10 @@ use lib.Seq.{sets}
 use Rattle.words.specs.declared.Fate.{Fate}
 use Rattle.words.specs.declared.Fate.the-variants.{Kept, Joined}
 use Rattle.words.specs.declared.Break.{Break}
+use Rattle.words.specs.stretches.CutSteps.{besideSeparator, unlessBeside}
+use Rattle.words.specs.stretches.Cuts.{breaksAmong}
 use Rattle.fates.specs.Entries.{fateEntries, breakEntries, entriesOf}
+use Rattle.fates.specs.Fates.{cutEntries, WriteRoom, BreakWritten}
 
 -- ---- one break
 
@@ -46,3 +51,25 @@ length-entries [] = refl
 length-entries (b ∷ bs) =
     ap length (entries-next b bs)
     ∙ (length-append (breakEntries b) (entriesOf bs) ∙ (rw (five-entries b, length-entries bs) (let z : 5 + 5 * length bs ≡ 5 * suc (length bs) = omega arith in z)))
+
+-- ---- a cut
+
+module _ (w buffer : List ℕ) (b : Break) (at : ℕ) where
+  no-entries : besideSeparator w (b .place) ≡ true → cutEntries w b ≡ []
+  unfolding breaksAmong flatten
+  no-entries e = ap (λ (t : Bool). entriesOf (unlessBeside t b [])) e
+
+  its-entries : besideSeparator w (b .place) ≡ false → cutEntries w b ≡ breakEntries b
+  unfolding breaksAmong flatten
+  its-entries e = ap (λ (t : Bool). entriesOf (unlessBeside t b [])) e ∙ append-nil (breakEntries b)
+
+  pub no-break-written : besideSeparator w (b .place) ≡ true → BreakWritten w b buffer at at buffer
+  no-break-written e = record { next = rw (no-entries e) (omega arith); stored = rw (no-entries e) }
+
+  pub break-room : besideSeparator w (b .place) ≡ false → WriteRoom w b buffer at → at + 5 ≤ length buffer
+  break-room e r = omega (arith, r, ap length (its-entries e), five-entries b)
+
+  -- c is the break that was made of it
+  pub break-written : {c : Break} {buffer′ : List ℕ} → besideSeparator w (b .place) ≡ false → c ≡ b → buffer′ ≡ sets buffer at (breakEntries c)
+      → BreakWritten w b buffer at (at + 5) buffer′
+  break-written e m z = record { next = rw (its-entries e, five-entries b); stored = rw (its-entries e) (rw m at z) }

@@ -1,4 +1,4 @@
--- The first of the breaks that are left, by the first of the ends that are left: what break_of makes is it (break-is), and the ends after it (kept-ends-on,
+-- The first of the cuts that are left, by the first of the ends that are left: what break_of makes is it (break-is), and the ends after it (kept-ends-on,
 -- joined-ends-on).
 use mathlib.Core.Path.{_≡_, refl, ap, sym}
 use mathlib.Core.List.{List, _∷_}
@@ -9,7 +9,8 @@ use lib.ListN.{getD}
 use Rattle.words.specs.declared.Fate.{Fate}
 use Rattle.words.specs.declared.Fate.the-variants.{Joined}
 use Rattle.words.specs.declared.Break.{Break}
-use Rattle.words.specs.breaks.BreakSteps.{Ended, kept, joined, keptEnds, FirstOf}
+use Rattle.words.specs.breaks.BreakSteps.{Ended, kept, joined, keptEnds}
+use Rattle.words.specs.stretches.Cuts.{FirstOf}
 use Rattle.fates.specs.Fates.{Near, fateBy, breakBy}
 
 module _ (w : List ℕ) (i : ℕ) (b : Break) (bs : List Break) (f : FirstOf w i b bs) where

@@ -1,26 +1,30 @@
--- The pass from left to right, over plain lists: the entries that were written, with those of the breaks that are left after them, are the entries of all
--- breaks; from entry next on stand the ends that are left.
+-- The pass from left to right, over plain lists: the entries that were written, with those of the breaks among the cuts that are left after them, are the entries
+-- of all breaks; from entry next on stand the ends that are left.
 use mathlib.Core.Path.{_≡_, refl, ap, sym, _∙_}
 use mathlib.Core.Logic.{_⊎_, inl, inr}
+use mathlib.Core.Bool.{Bool, true, false}
 use mathlib.Core.List.{List, [], _∷_, _++_, append-assoc, append-nil, flatten, tail-eq-of-cons-eq}
 use Prim.Native.Nat.{ℕ, suc, _+_, _-_, _*_, _≤_, _<_}
 use native.Mathlib.Omega.{arith}
+use native.Mathlib.Decide.{decLt}
 use lib.ListN.{length, take, drop, getD, length-append, take-append-drop, drop-of-length-le}
 use lib.Seq.{sets, sets-eq, length-sets, slice, slice-cons, length-slice, take-at, drop-at, length-take-le}
 use Rattle.buffers.specs.Buffers.{written}
 use Rattle.buffers.proofs.BufferLaws.{kept-past}
-use Rattle.words.specs.Factorizations.{icflBreaks}
+use Rattle.words.specs.Separated.{separatedBreaks}
 use Rattle.words.specs.declared.Break.{Break}
-use Rattle.words.specs.breaks.BreakSteps.{Steps, breaks-steps, steps-first, FirstOf, BreakAt, keptEnds}
-use Rattle.words.specs.breaks.IcflBreaks.{icfl-breaks}
+use Rattle.words.specs.breaks.BreakSteps.{keptEnds}
+use Rattle.words.specs.stretches.CutSteps.{besideSeparator, unlessBeside}
+use Rattle.words.specs.stretches.Cuts.{Cuts, record-ends, cuts-first, FirstOf, CutAt, breaksAmong, record-breaks}
 use Rattle.breaks.specs.declared.Found.{Found}
-use Rattle.breaks.proofs.NoteLaws.{few-noted, noted-break, note-at}
+use Rattle.breaks.specs.Cutting.{notesOf, Noted}
+use Rattle.breaks.proofs.NoteLaws.{few-noted, noted-cut, note-at}
 use Rattle.fates.specs.Entries.{breakEntries, entriesOf}
-use Rattle.fates.specs.Fates.{Near, breakBy, Writable}
-use Rattle.fates.proofs.EntryLaws.{five-entries, entries-next, length-entries}
+use Rattle.fates.specs.Fates.{Near, breakBy, cutEntries, WriteRoom, BreakWritten, Writable}
+use Rattle.fates.proofs.EntryLaws.{entries-next, length-entries}
 use Rattle.fates.proofs.FateLaws.{near, break-is, kept-ends-on, joined-ends-on}
 
--- ---- five entries more
+-- ---- some entries more
 
 module _ (buffer vs : List ℕ) (i j : ℕ) (s : i + length vs ≡ j) (l : j ≤ length buffer) where
   front : length (take i buffer ++ vs) ≡ j
@@ -39,56 +43,96 @@ module _ (buffer vs : List ℕ) (i j : ℕ) (s : i + length vs ≡ j) (l : j ≤
 some-end : (w : List ℕ) (bs : List Break) → 0 < length (keptEnds w bs)
 some-end w bs = rw length-append (omega arith)
 
+-- ---- one cut's entries, and those of the cuts after it
+
+among-next : (w : List ℕ) (b : Break) (bs : List Break) → entriesOf (breaksAmong w (b ∷ bs)) ≡ cutEntries w b ++ entriesOf (breaksAmong w bs)
+unfolding breaksAmong flatten
+among-next w b bs = go (besideSeparator w (b .place))
+  where
+    go : (t : Bool) → entriesOf (unlessBeside t b (breaksAmong w bs)) ≡ entriesOf (unlessBeside t b []) ++ entriesOf (breaksAmong w bs)
+    go true = refl
+    go false = entries-next b (breaksAmong w bs) ∙ ap (λ (es : List ℕ). es ++ entriesOf (breaksAmong w bs)) (sym (append-nil (breakEntries b)))
+
+-- no entry is left of a list of length 0
+empty-of-length : (es : List ℕ) → length es ≡ 0 → es ≡ []
+empty-of-length [] e = refl
+empty-of-length (x ∷ es) e = absurd (omega arith)
+
 -- ---- the loop
 
-pub record Writing (w work buffer₀ buffer : List ℕ) (count next end begun k : ℕ) : Type 0 where
-  pub upto : k ≤ count
-  pub steps : Steps w begun (drop k (icflBreaks w))
+pub record Writing (w work buffer₀ buffer : List ℕ) (all next end begun at k : ℕ) : Type 0 where
+  pub cuts : List Break
+  pub noted : Cuts w 0 cuts
+  pub notes : take (2 * length cuts) (drop (length w) work) ≡ notesOf cuts
+  pub walk : Cuts w begun (drop k cuts)
   pub inside : next < length w
   pub current : end ≡ getD work next 0
-  pub ends : slice next (length w) work ≡ keptEnds w (drop k (icflBreaks w))
-  pub done : take (5 * k) buffer ++ entriesOf (drop k (icflBreaks w)) ≡ entriesOf (icflBreaks w)
-  pub kept : drop (5 * k) buffer ≡ drop (5 * k) buffer₀
+  pub ends : slice next (length w) work ≡ keptEnds w (drop k cuts)
+  pub left : at + length (entriesOf (breaksAmong w (drop k cuts))) ≡ all
+  pub done : take at buffer ++ entriesOf (breaksAmong w (drop k cuts)) ≡ entriesOf (separatedBreaks w)
+  pub kept : drop at buffer ≡ drop at buffer₀
   pub long : length buffer ≡ length buffer₀
 
 module _ (w work buffer₀ : List ℕ) (found : Found) (x : Writable w work found buffer₀) where
-  abbrev count : ℕ
-  count = found .breaks
+  abbrev all : ℕ
+  all = 5 * found .breaks
 
-  abbrev bs : List Break
-  bs = icflBreaks w
-
-  pub write-starts : Writing w work buffer₀ buffer₀ count (found .first) (getD work (found .first) 0) 0 0
-  unfolding icflBreaks
-  write-starts = record {
-    upto = omega arith;
-    steps = breaks-steps w 0 (x .room .nonempty);
-    inside = x .inside;
-    current = refl;
-    ends = x .ends ∙ sym (icfl-breaks w (x .room .nonempty) .ends);
-    done = refl;
-    kept = refl;
-    long = refl;
-  }
-
-  pub few : count < length w
-  few = few-noted w work count (x .room .nonempty) (x .noted)
+  pub write-starts : Writing w work buffer₀ buffer₀ all (found .first) (getD work (found .first) 0) 0 0 0
+  write-starts =
+      let same : breaksAmong w (x .noted .cuts) ≡ separatedBreaks w = record-breaks (x .noted .walk) in
+      record {
+        cuts = x .noted .cuts;
+        noted = x .noted .walk;
+        notes = rw (x .noted .number) at (x .noted .notes);
+        walk = x .noted .walk;
+        inside = x .inside;
+        current = refl;
+        ends = x .ends ∙ sym (record-ends (x .noted .walk));
+        left = rw (same, length-entries (separatedBreaks w)) (omega (arith, x .breaks));
+        done = rw same;
+        kept = refl;
+        long = refl;
+      }
 
   pub work-inside : length w ≤ length work
   work-inside = omega (arith, x .room .entries)
 
-  module _ (buffer : List ℕ) (next end begun k : ℕ) (g : Writing w work buffer₀ buffer count next end begun k) (l : k < count) where
-    break : BreakAt w bs k
-    break = noted-break w work count (x .room .nonempty) (x .noted) k l
+  module _ (buffer : List ℕ) (next end begun at k : ℕ) (g : Writing w work buffer₀ buffer all next end begun at k) (m : at < all) where
+    abbrev bs : List Break
+    bs = g .cuts
+
+    abbrev count : ℕ
+    count = length bs
+
+    abbrev noted : Noted w work count
+    noted = record { cuts = bs; walk = g .noted; number = refl; notes = g .notes }
+
+    -- a break is left, so a cut is
+    l : k < count
+    unfolding flatten breaksAmong
+    l = go (decLt k count)
+      where
+        go : Dec (k < count) → k < count
+        go (yes h) = h
+        go (no h) =
+            let none : drop k bs ≡ [] = drop-of-length-le bs {i = k} (omega arith) in
+            absurd (omega (arith, rw none at (g .left)))
+
+    -- its note lies in the work buffer
+    pub note-inside : (length w + 2 * k + 1 < length work) × (k < length w)
+    note-inside = let few : count < length w = few-noted w work count noted in (omega (arith, few, l, x .room .entries), omega (arith, few, l))
+
+    cut : CutAt w bs k
+    cut = noted-cut w work count noted k l
 
     abbrev b : Break
-    b = break .break
+    b = cut .told
 
     abbrev later : List Break
     later = drop (suc k) bs
 
     first : FirstOf w begun b later
-    first = steps-first (rw (break .is) at (g .steps))
+    first = cuts-first (rw (cut .is) at (g .walk))
 
     abbrev place : ℕ
     place = getD work (length w + 2 * k) 0
@@ -97,15 +141,15 @@ module _ (w work buffer₀ : List ℕ) (found : Found) (x : Writable w work foun
     border = getD work (length w + 2 * k + 1) 0
 
     place-is : place ≡ b .place
-    unfolding break
-    place-is = note-at w work count (x .room .nonempty) (x .noted) k l .0
+    unfolding cut
+    place-is = note-at w work count noted k l .0
 
     border-is : border ≡ b .border
-    unfolding break
-    border-is = note-at w work count (x .room .nonempty) (x .noted) k l .1
+    unfolding cut
+    border-is = note-at w work count noted k l .1
 
     ends-are : slice next (length w) work ≡ keptEnds w (b ∷ later)
-    ends-are = g .ends ∙ ap (keptEnds w) (break .is)
+    ends-are = g .ends ∙ ap (keptEnds w) (cut .is)
 
     ends-cons : slice next (length w) work ≡ end ∷ slice (suc next) (length w) work
     ends-cons = rw (g .current) (slice-cons next (length w) work 0 (g .inside) work-inside)
@@ -119,10 +163,20 @@ module _ (w work buffer₀ : List ℕ) (found : Found) (x : Writable w work foun
     made : breakBy w place begun border end ≡ b
     made = rw (place-is, border-is) (break-is w begun b later first end-is)
 
-    pub room-at : 5 * k + 5 ≤ length buffer
-    room-at = omega (arith, x .entries, g .long)
+    -- this cut's entries, then those of the cuts after it
+    entries-are : entriesOf (breaksAmong w (drop k bs)) ≡ cutEntries w b ++ entriesOf (breaksAmong w later)
+    entries-are = ap (λ (cs : List Break). entriesOf (breaksAmong w cs)) (cut .is) ∙ among-next w b later
 
-    -- the ends that are left, if the first one is this break's place
+    entries-left : at + length (cutEntries w b) + length (entriesOf (breaksAmong w later)) ≡ all
+    entries-left =
+        let size : length (entriesOf (breaksAmong w (drop k bs))) ≡ length (cutEntries w b) + length (entriesOf (breaksAmong w later))
+        = ap length entries-are ∙ length-append (cutEntries w b) (entriesOf (breaksAmong w later)) in
+        omega (arith, g .left, size)
+
+    pub room-at : WriteRoom w (breakBy w place begun border end) buffer at
+    room-at = rw made (omega (arith, entries-left, x .entries, g .long))
+
+    -- the ends that are left, if the first one is this cut's place
     kept-left : place ≡ end → slice (suc next) (length w) work ≡ keptEnds w later
     kept-left z =
         let same : b .place ≡ getD (keptEnds w (b ∷ later)) 0 0 = sym place-is ∙ (z ∙ end-is) in
@@ -133,60 +187,69 @@ module _ (w work buffer₀ : List ℕ) (found : Found) (x : Writable w work foun
         let left : length w - suc next ≡ length (keptEnds w later) = sym (length-slice (suc next) (length w) work work-inside) ∙ ap length (kept-left z) in
         omega (arith, left, some-end w later)
 
-    -- c is the break that was made, buffer′ what the five stores left
-    module _ (c : Break) (buffer′ : List ℕ) (m : c ≡ breakBy w place begun border end) (e : buffer′ ≡ sets buffer (5 * k) (breakEntries c)) where
-      size : 5 * k + length (breakEntries b) ≡ 5 * (k + 1)
-      size = rw (five-entries b) (omega arith)
+    -- buffer′ is what writing it left, at′ the entry after it
+    module _ (buffer′ : List ℕ) (at′ : ℕ) (y : BreakWritten w (breakBy w place begun border end) buffer at at′ buffer′) where
+      wrote : BreakWritten w b buffer at at′ buffer′
+      wrote = rw made at y
 
-      stored-is : buffer′ ≡ sets buffer (5 * k) (breakEntries b)
-      stored-is = e ∙ ap (λ (t : Break). sets buffer (5 * k) (breakEntries t)) (m ∙ made)
+      size : at + length (cutEntries w b) ≡ at′
+      size = sym (wrote .next)
 
-      taken : take (5 * (k + 1)) buffer′ ≡ take (5 * k) buffer ++ breakEntries b
-      taken = ap (take (5 * (k + 1))) stored-is ∙ take-stored buffer (breakEntries b) (5 * k) (5 * (k + 1)) size (omega (arith, room-at))
+      fits : at′ ≤ length buffer
+      fits = omega (arith, size, entries-left, x .entries, g .long)
 
-      past : drop (5 * (k + 1)) buffer′ ≡ drop (5 * (k + 1)) buffer
-      past = ap (drop (5 * (k + 1))) stored-is ∙ drop-stored buffer (breakEntries b) (5 * k) (5 * (k + 1)) size (omega (arith, room-at))
+      taken : take at′ buffer′ ≡ take at buffer ++ cutEntries w b
+      taken = ap (take at′) (wrote .stored) ∙ take-stored buffer (cutEntries w b) at at′ size fits
+
+      past : drop at′ buffer′ ≡ drop at′ buffer
+      past = ap (drop at′) (wrote .stored) ∙ drop-stored buffer (cutEntries w b) at at′ size fits
+
+      same-length : length buffer′ ≡ length buffer
+      same-length = ap length (wrote .stored) ∙ length-sets buffer at (cutEntries w b)
 
       written-on : (next′ : ℕ) → next′ < length w → slice next′ (length w) work ≡ keptEnds w later
-          → Writing w work buffer₀ buffer′ count next′ (getD work next′ 0) place (k + 1)
+          → Writing w work buffer₀ buffer′ all next′ (getD work next′ 0) place at′ (k + 1)
       written-on next′ i t =
           let z : suc k ≡ k + 1 = omega arith in
-          let all : (take (5 * k) buffer ++ breakEntries b) ++ entriesOf later ≡ entriesOf bs
-          = append-assoc (take (5 * k) buffer) (breakEntries b) (entriesOf later)
-          ∙ (ap (λ (us : List ℕ). take (5 * k) buffer ++ us) (sym (entries-next b later) ∙ ap entriesOf (sym (break .is))) ∙ g .done) in
+          let done : take at′ buffer′ ++ entriesOf (breaksAmong w later) ≡ entriesOf (separatedBreaks w)
+          = ap (λ (us : List ℕ). us ++ entriesOf (breaksAmong w later)) taken
+          ∙ (append-assoc (take at buffer) (cutEntries w b) (entriesOf (breaksAmong w later))
+          ∙ (ap (λ (us : List ℕ). take at buffer ++ us) (sym entries-are) ∙ g .done)) in
           record {
-            upto = omega arith;
-            steps = rw (place-is, ← z) (first .rest);
+            cuts = bs;
+            noted = g .noted;
+            notes = g .notes;
+            walk = rw (place-is, ← z) (first .rest);
             inside = i;
             current = refl;
             ends = rw (← z) t;
-            done = ap (λ (us : List ℕ). us ++ entriesOf (drop (k + 1) bs)) taken ∙ (rw z at all);
-            kept = past ∙ kept-past (5 * k) (5 * (k + 1)) buffer buffer₀ (omega arith) (g .kept);
-            long = ap length stored-is ∙ (length-sets buffer (5 * k) (breakEntries b) ∙ g .long);
+            left = rw (← z) (omega (arith, entries-left, size));
+            done = rw (← z) done;
+            kept = past ∙ kept-past at at′ buffer buffer₀ (omega (arith, size)) (g .kept);
+            long = same-length ∙ g .long;
           }
 
-      kept-on : place ≡ end → Writing w work buffer₀ buffer′ count (next + 1) (getD work (next + 1) 0) place (k + 1)
+      kept-on : place ≡ end → Writing w work buffer₀ buffer′ all (next + 1) (getD work (next + 1) 0) place at′ (k + 1)
       kept-on z = written-on (next + 1) (next-inside z) (let n : suc next ≡ next + 1 = omega arith in rw (← n) (kept-left z))
 
-      joined-on : ¬ (place ≡ end) → Writing w work buffer₀ buffer′ count next end place (k + 1)
+      joined-on : ¬ (place ≡ end) → Writing w work buffer₀ buffer′ all next end place at′ (k + 1)
       joined-on n =
           let other : ¬ (b .place ≡ getD (keptEnds w (b ∷ later)) 0 0) = λ e. n (place-is ∙ (e ∙ sym end-is)) in
           rw (g .current) (written-on next (g .inside) (ends-are ∙ joined-ends-on w begun b later first other))
 
       pub write-on : (next′ end′ : ℕ)
           → ((place ≡ end) × (next′ ≡ next + 1) × (end′ ≡ getD work (next + 1) 0)) ⊎ ((¬ (place ≡ end)) × (next′ ≡ next) × (end′ ≡ end))
-          → Writing w work buffer₀ buffer′ count next′ end′ place (k + 1)
+          → Writing w work buffer₀ buffer′ all next′ end′ place at′ (k + 1)
       write-on next′ end′ (inl z) = rw (z .1, z .2) (kept-on (z .0))
       write-on next′ end′ (inr z) = rw (z .1, z .2) (joined-on (z .0))
 
-  pub write-ends : (buffer : List ℕ) (next end begun k : ℕ) → Writing w work buffer₀ buffer count next end begun k → count ≤ k
-      → buffer ≡ written (entriesOf bs) buffer₀
-  unfolding flatten
-  write-ends buffer next end begun k g l =
-      let z : k ≡ length bs = omega (arith, g .upto, x .noted .number) in
-      let none : drop k bs ≡ [] = drop-of-length-le bs {i = k} (omega (arith, z)) in
-      let all : take (5 * k) buffer ≡ entriesOf bs = sym (append-nil (take (5 * k) buffer)) ∙ (rw none at (g .done)) in
-      let size : 5 * k ≡ length (entriesOf bs) = rw (length-entries bs, z) in
-      sym (take-append-drop (5 * k) buffer)
-      ∙ (ap (λ (t : List ℕ). t ++ drop (5 * k) buffer) all
-      ∙ ap (λ (t : List ℕ). entriesOf bs ++ t) (g .kept ∙ ap (λ (m : ℕ). drop m buffer₀) size))
+  pub write-ends : (buffer : List ℕ) (next end begun at k : ℕ) → Writing w work buffer₀ buffer all next end begun at k → all ≤ at
+      → buffer ≡ written (entriesOf (separatedBreaks w)) buffer₀
+  write-ends buffer next end begun at k g l =
+      let none : entriesOf (breaksAmong w (drop k (g .cuts))) ≡ [] = empty-of-length _ (omega (arith, g .left)) in
+      let es : List ℕ = entriesOf (separatedBreaks w) in
+      let whole : take at buffer ≡ es = sym (append-nil (take at buffer)) ∙ (rw none at (g .done)) in
+      let size : at ≡ length es = sym (length-take-le at buffer (omega (arith, g .left, x .entries, g .long))) ∙ ap length whole in
+      sym (take-append-drop at buffer)
+      ∙ (ap (λ (t : List ℕ). t ++ drop at buffer) whole
+      ∙ ap (λ (t : List ℕ). es ++ t) (g .kept ∙ ap (λ (m : ℕ). drop m buffer₀) size))

@@ -1,4 +1,4 @@
-//! What became of each break: read off the notes of the breaks and the ends of the factors, from left to right, and written five entries a break.
+//! What became of each break: read off the notes of the cuts and the ends of the factors, from left to right, and written five entries a break.
 use breaks::Found;
 use words::Break;
 use words::Fate;
@@ -7,11 +7,11 @@ ghost use Prim.Native.Nat.{_+_, _≤_};
 ghost use lib.ListN.{length};
 ghost use lib.Seq.{sets};
 ghost use Rattle.buffers.specs.Buffers.{written};
-ghost use Rattle.words.specs.Factorizations.{icflBreaks};
+ghost use Rattle.words.specs.Separated.{separatedBreaks};
 ghost use Rattle.fates.specs.Entries.{breakEntries, entriesOf};
-ghost use Rattle.fates.specs.Fates.{Near, breakBy, Writable};
+ghost use Rattle.fates.specs.Fates.{Near, breakBy, WriteRoom, BreakWritten, Writable};
 
-// A break by the first end that does not lie before it: kept if that is its place, otherwise joined to the factor that ends there.
+// A cut, told as a break is, by the first end that does not lie before it: kept if that is its place, otherwise joined to the factor that ends there.
 fn break_of(word: &[u8], place: u16, begun: u16, border: u16, end: u16) -> Break
     requires { ⌜ Near (now word) place begun border end ⌝ }
     ensures { λ r. ⌜ r ≡ breakBy (now (word .entry)) place begun border end ⌝ }
@@ -55,22 +55,43 @@ fn write_break(b: Break, buffer: &mut [u16], at: usize)
     }
 }
 
-/// Writes all breaks of a word whose ends and breaks were found in `work`.
+// Writes a cut, from entry `at` on, if it is a break. Answers the entry after what was written.
+fn write_if_break(
+    word: &[u8],
+    place: u16,
+    begun: u16,
+    border: u16,
+    end: u16,
+    buffer: &mut [u16],
+    at: usize,
+) -> usize
+    requires { ⌜ Near (now word) place begun border end × WriteRoom (now word) (breakBy (now word) place begun border end) (now buffer) at ⌝ }
+    ensures { λ r. ⌜ BreakWritten (now (word .entry)) (breakBy (now (word .entry)) place begun border end) (now (buffer .entry)) at r (now (buffer .exit)) ⌝ }
+{
+    if breaks::beside_separator(word, place as usize) {
+        return at;
+    }
+    let b = break_of(word, place, begun, border, end);
+    write_break(b, buffer, at);
+    at + 5
+}
+
+/// Writes all breaks of a record whose ends and cuts were found in `work`.
 pub fn write_breaks(word: &[u8], work: &[u16], found: Found, buffer: &mut [u16])
     requires { ⌜ Writable (now word) (now work) found (now buffer) ⌝ }
-    ensures { λ r. ⌜ now (buffer .exit) ≡ written (entriesOf (icflBreaks (now (word .entry)))) (now (buffer .entry)) ⌝ }
+    ensures { λ r. ⌜ now (buffer .exit) ≡ written (entriesOf (separatedBreaks (now (word .entry)))) (now (buffer .entry)) ⌝ }
 {
     let n = word.len();
-    let count = found.breaks;
+    let all = 5 * found.breaks;
     let mut next = found.first;
     let mut end = work[next];
     let mut begun: u16 = 0;
+    let mut at: usize = 0;
     let mut k: usize = 0;
-    while k < count {
+    while at < all {
         let place = work[n + 2 * k];
         let border = work[n + 2 * k + 1];
-        let b = break_of(word, place, begun, border, end);
-        write_break(b, buffer, 5 * k);
+        at = write_if_break(word, place, begun, border, end, buffer, at);
         if place == end {
             next += 1;
             end = work[next];

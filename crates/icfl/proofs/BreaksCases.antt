@@ -5,7 +5,7 @@ use mathlib.Core.List.{List, [], _∷_}
 use Prim.Native.Nat.{ℕ, _-_, _*_, _≤_}
 use borrow.Author.Tests.{ltb-false}
 use lib.ListN.{length}
-use Rattle.words.specs.Factorizations.{icflEnds, icflBreaks}
+use Rattle.words.specs.Separated.{separatedIcflEnds, separatedBreaks}
 use Rattle.buffers.specs.Buffers.{cleared, written}
 use Rattle.buffers.proofs.PartLaws.{part}
 use Rattle.checks.specs.Lines.{Line, tried, resultLine}
@@ -27,13 +27,13 @@ roomLines ends breaks factors count = resultLine ends factors ∷ resultLine bre
 
 module _ (w work ends breaks : List ℕ) where
   abbrev room : List Line
-  room = roomLines (length ends) (length breaks) (length (icflEnds w)) (length (icflBreaks w))
+  room = roomLines (length ends) (length breaks) (length (separatedIcflEnds w)) (length (separatedBreaks w))
 
   abbrev lines : List Line
   lines = breaksLines w (length work) (length ends) (length breaks)
 
   abbrev result : CountedBreaks
-  result = CountedBreaks.Counts (length (icflEnds w)) (length (icflBreaks w))
+  result = CountedBreaks.Counts (length (separatedIcflEnds w)) (length (separatedBreaks w))
 
   pub breaks-unadmitted : {k : Checked} {m : ℕ} → k ≡ tried (icflAdmission w (length work)) → IsRefused k → m ≡ numberOf k
       → BreaksDone w work ends breaks (CountedBreaks.Refused m) work ends breaks
@@ -41,8 +41,8 @@ module _ (w work ends breaks : List ℕ) where
       let first : k ≡ tried lines = refused-first (icflAdmission w (length work)) room e h in
       record {
         answer = refused lines result (λ (i : ℕ). CountedBreaks.Refused i) first h z;
-        ends-are = refused lines (written (icflEnds w) ends) (λ (i : ℕ). ends) first h z;
-        breaks-are = refused lines (written (entriesOf (icflBreaks w)) breaks) (λ (i : ℕ). breaks) first h z;
+        ends-are = refused lines (written (separatedIcflEnds w) ends) (λ (i : ℕ). ends) first h z;
+        breaks-are = refused lines (written (entriesOf (separatedBreaks w)) breaks) (λ (i : ℕ). breaks) first h z;
         worked = refused-worked w work room refl e h z;
       }
 
@@ -50,25 +50,25 @@ module _ (w work ends breaks : List ℕ) where
       (l : length w ≤ length work₁) (y : work₂ ≡ cleared (3 * length w) work₁) where
     -- these lines are tried after the others
     fourth : {k : Checked} → k ≡ tried (roomLines (length ends) (length breaks) (length w - found .first) (found .breaks)) → k ≡ tried lines
-    fourth e = passed-first (icflAdmission w (length work)) room p (rw (ends-count x l, x .noted .number) at e)
+    fourth e = passed-first (icflAdmission w (length work)) room p (rw (ends-count x l, x .breaks) at e)
 
     pub breaks-refused : {k : Checked} {m : ℕ} → k ≡ tried (roomLines (length ends) (length breaks) (length w - found .first) (found .breaks))
         → IsRefused k → m ≡ numberOf k → BreaksDone w work ends breaks (CountedBreaks.Refused m) work₂ ends breaks
     breaks-refused e h z = record {
       answer = refused lines result (λ (i : ℕ). CountedBreaks.Refused i) (fourth e) h z;
-      ends-are = refused lines (written (icflEnds w) ends) (λ (i : ℕ). ends) (fourth e) h z;
-      breaks-are = refused lines (written (entriesOf (icflBreaks w)) breaks) (λ (i : ℕ). breaks) (fourth e) h z;
+      ends-are = refused lines (written (separatedIcflEnds w) ends) (λ (i : ℕ). ends) (fourth e) h z;
+      breaks-are = refused lines (written (entriesOf (separatedBreaks w)) breaks) (λ (i : ℕ). breaks) (fourth e) h z;
       worked = cut-worked w work room refl p x y;
     }
 
     pub breaks-written : {ends′ breaks′ : List ℕ}
         → tried (roomLines (length ends) (length breaks) (length w - found .first) (found .breaks)) ≡ Passed
-        → ends′ ≡ written (part (found .first) (length w) work₁) ends → breaks′ ≡ written (entriesOf (icflBreaks w)) breaks
+        → ends′ ≡ written (part (found .first) (length w) work₁) ends → breaks′ ≡ written (entriesOf (separatedBreaks w)) breaks
         → BreaksDone w work ends breaks (CountedBreaks.Counts (length w - found .first) (found .breaks)) work₂ ends′ breaks′
     breaks-written r e f =
         let passed : tried lines ≡ Passed = sym (fourth (sym r)) in
         record {
-          answer = rw (passed, ends-count x l, x .noted .number);
+          answer = rw (passed, ends-count x l, x .breaks);
           ends-are = rw passed (rw (ends-part x l) at e);
           breaks-are = rw passed f;
           worked = cut-worked w work room refl p x y;

@@ -8,7 +8,7 @@ use borrow.Author.Tests.{ltb-false}
 use lib.ListN.{length}
 use lib.Seq.{length-slice}
 use lib.Dec.{eqb}
-use Rattle.words.specs.Factorizations.{icflEnds}
+use Rattle.words.specs.Separated.{separatedIcflEnds}
 use Rattle.buffers.specs.Buffers.{cleared, written}
 use Rattle.buffers.proofs.BufferLaws.{cleared-kept}
 use Rattle.buffers.proofs.PartLaws.{part, part-is}
@@ -34,10 +34,10 @@ module _ (w work : List ℕ) (admitted : tried (icflAdmission w (length work)) �
 
 -- the ends stand from entry first to entry n
 module _ {w work work₁ : List ℕ} {found : Found} (x : CutFound w work found work₁) (l : length w ≤ length work₁) where
-  pub ends-count : length w - found .first ≡ length (icflEnds w)
+  pub ends-count : length w - found .first ≡ length (separatedIcflEnds w)
   ends-count = sym (length-slice (found .first) (length w) work₁ l) ∙ ap length (x .ends)
 
-  pub ends-part : part (found .first) (length w) work₁ ≡ icflEnds w
+  pub ends-part : part (found .first) (length w) work₁ ≡ separatedIcflEnds w
   ends-part = part-is (found .first) (length w) work₁ ∙ x .ends
 
 -- after the admission only lines with number 4 are tried
@@ -60,7 +60,7 @@ module _ (w work : List ℕ) (more : List Line) (fours : everyNumber (λ m. eqb 
 
 module _ (w work buffer : List ℕ) where
   abbrev room : List Line
-  room = resultLine (length buffer) (length (icflEnds w)) ∷ []
+  room = resultLine (length buffer) (length (separatedIcflEnds w)) ∷ []
 
   pub admission-refused : {k : Checked} {m : ℕ} → k ≡ tried (icflAdmission w (length work)) → IsRefused k → m ≡ numberOf k
       → IcflDone w work buffer (Counted.Refused m) work buffer

@@ -31,8 +31,8 @@ fn print_breaks(list: &[u16], count: usize) {
     }
 }
 
-// The piece ends and the breaks, with so many entries lent for them as `ends` and `list` have.
-fn print_reasons(name: &[u8], word: &[u8], ends: &mut [u16], list: &mut [u16]) {
+/// The piece ends and the breaks, with so many entries lent for them as `ends` and `list` have.
+pub fn print_reasons(name: &[u8], word: &[u8], ends: &mut [u16], list: &mut [u16]) {
     let mut work = [0u16; 3 * MOST];
     io::write_all(STDOUT_FILENO, name);
     match icfl::icfl_with_breaks(word, &mut work, ends, list) {

@@ -1,30 +1,21 @@
 //! Prints what paper 01 and the requests say of single records, as the calls answer it. The numbers that must come are the papers', and stand in `stdout`;
 //! the file `args` has the records A to K.
 mod breaks; // the piece cut with its breaks
-mod printing; // lists of numbers and refusals
+mod marks; // records with marks
+mod printing; // lists of numbers, refusals and answers
 mod refusals; // the refusals of every call
 
 use breaks::print_joins;
 use breaks::print_room_for_breaks;
-use checks::Counted;
 use checks::MOST;
 use compare::Comparison;
 use extension::Extension;
 use libc::STDOUT_FILENO;
-use naive::front;
+use marks::print_marks;
 use naive::store_three;
+use printing::print_answer;
 use printing::print_list;
-use printing::print_refusal;
 use refusals::print_refusals;
-
-// An answer: the entries of the result, or the refusal's number.
-fn print_answer(name: &[u8], answer: Counted, list: &[u16]) {
-    io::write_all(STDOUT_FILENO, name);
-    match answer {
-        Counted::Count(count) => print_list(front(list, count)),
-        Counted::Refused(number) => print_refusal(number),
-    }
-}
 
 // The piece ends, with so many entries lent for them as `ends` has.
 fn print_pieces(name: &[u8], word: &[u8], ends: &mut [u16]) {
@@ -104,15 +95,31 @@ fn print_room() {
     print_pieces(b"\nH with 1 entry pieces=", b"cbabacbac", &mut one);
 }
 
-// Signs of H, and of a stretch that is not whole pieces.
+// Signs of H, of a range that is not whole pieces, and of one with marks in it, which are the largest letters there.
 fn print_signs() {
     print_sign(b"\nH over 0 to 9, 0 and 5: ", b"cbabacbac", 0, 9, 0, 5);
     print_sign(b"H over 5 to 9, 5 and 8: ", b"cbabacbac", 5, 9, 5, 8);
     print_sign(b"bba over 0 to 2, 0 and 1: ", b"bba", 0, 2, 0, 1);
     print_sign(b"bba over 0 to 3, 0 and 1: ", b"bba", 0, 3, 0, 1);
+    print_sign(
+        b"Two marks, a over 0 to 2, 0 and 1: ",
+        b"\xff\xffa",
+        0,
+        2,
+        0,
+        1,
+    );
+    print_sign(
+        b"Two marks, a over 0 to 3, 0 and 1: ",
+        b"\xff\xffa",
+        0,
+        3,
+        0,
+        1,
+    );
 }
 
-// The table, what is said of H and I and of a stretch, breaks, and the refusals at the greatest length and one above it.
+// The table, what is said of H and I and of ranges, breaks, marks, and the refusals of a record with a mark, at the greatest length and one above it.
 fn main() {
     print_table();
     print_starts();
@@ -122,6 +129,8 @@ fn main() {
     print_signs();
     print_joins();
     print_room_for_breaks();
+    print_marks();
+    print_refusals(b"ba, a mark: ", b"ba\xff", &[3]);
     let word = [97u8; MOST + 1];
     print_refusals(b"4096 letters: ", &word[..MOST], &[4096]);
     print_refusals(b"4097 letters: ", &word, &[4097]);

@@ -9,8 +9,9 @@ use native.Mathlib.Decide.{decLt}
 use native.Mathlib.Omega.{arith}
 use lib.ListN.{length, getD, length-append, List·getD-eq-default}
 use Rattle.words.specs.Words.{mostLetters}
-use Rattle.words.specs.Factorizations.{icflEnds, cflInEnds}
-use Rattle.words.specs.places.EndsRise.{Rises, done, more, rises-few, rises-inside, rises-some, icfl-ends-rise, cfl-in-ends-rise}
+use Rattle.words.specs.Separated.{separatedIcflEnds, separatedCflInEnds}
+use Rattle.words.specs.places.EndsRise.{Rises, done, more, rises-few, rises-inside, rises-some}
+use Rattle.words.specs.stretches.Factors.{separated-icfl-ends-rise, separated-cfl-in-ends-rise}
 use Rattle.checks.proofs.RecordLaws.{Accepted}
 use Rattle.summary.specs.Summary.{lengthsFrom, greatest, startOf, bandsOf, summaryOf}
 use Rattle.summary.proofs.SummaryLaws.{start-either, count-most, bands-length, bands-at}
@@ -65,14 +66,14 @@ bands-most es k = go (decLt k 13)
 
 -- ---- the seven lines
 
-pub total-most : (w : List ℕ) → Accepted w → total (linesOf (length w) (icflEnds w) (cflInEnds w) (summaryOf (icflEnds w))) ≤ 10 * mostLetters + 256
+pub total-most : (w : List ℕ) → Accepted w → total (linesOf (length w) (separatedIcflEnds w) (separatedCflInEnds w) (summaryOf (separatedIcflEnds w))) ≤ 10 * mostLetters + 256
 unfolding summaryOf
 total-most w a = simp line-length (omega (
   arith,
   decimal-four (length w) (a .short),
   decimal-four (length es) few,
   ends-most rise (a .nonempty) (a .short),
-  ends-most (cfl-in-ends-rise w) (a .nonempty) (a .short),
+  ends-most (separated-cfl-in-ends-rise w) (a .nonempty) (a .short),
   decimal-four (greatest (lengthsFrom 0 es)) (le-trans (longest-most rise) (a .short)),
   decimal-four (startOf (greatest (lengthsFrom 0 es)) 0 es) (le-trans (start-most (greatest (lengthsFrom 0 es)) rise) (a .short)),
   list-most (bandsOf es) (omega (arith, bands-length es)) (λ i. le-trans (bands-most es i) few),
@@ -80,10 +81,10 @@ total-most w a = simp line-length (omega (
 ))
   where
     es : List ℕ
-    es = icflEnds w
+    es = separatedIcflEnds w
 
     rise : Rises (length w) 0 es
-    rise = icfl-ends-rise w
+    rise = separated-icfl-ends-rise w
 
     few : length es ≤ mostLetters
     few = omega (arith, rises-few rise, a .short)

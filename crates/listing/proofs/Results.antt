@@ -9,8 +9,9 @@ use native.Mathlib.Omega.{arith}
 use borrow.Author.Tests.{le-ltb}
 use lib.ListN.{length, take}
 use Rattle.words.specs.Words.{mostLetters}
-use Rattle.words.specs.Factorizations.{icflEnds, cflInEnds}
-use Rattle.words.specs.places.EndsRise.{rises-few, rises-some, icfl-ends-rise, cfl-in-ends-rise}
+use Rattle.words.specs.Separated.{separatedIcflEnds, separatedCflInEnds}
+use Rattle.words.specs.places.EndsRise.{rises-few, rises-some}
+use Rattle.words.specs.stretches.Factors.{separated-icfl-ends-rise, separated-cfl-in-ends-rise}
 use Rattle.buffers.specs.Buffers.{cleared, written}
 use Rattle.checks.specs.declared.Checked.{Checked}
 use Rattle.checks.specs.declared.Checked.the-variants.{Passed}
@@ -46,8 +47,8 @@ module _ {work ends strict out : List ℕ} (room : ListingRoom work ends strict 
         size = rw (← is) (omega (arith, x .place));
         text = rw (← is) (wrote-front x (omega (arith, refused-fits .inside)));
         worked = refused (recordLines w) (cleared (3 * length w) work) (λ number. work) e h z;
-        pieces = refused (recordLines w) (written (icflEnds w) ends) (λ number. ends) e h z;
-        stricts = refused (recordLines w) (written (cflInEnds w) strict) (λ number. strict) e h z;
+        pieces = refused (recordLines w) (written (separatedIcflEnds w) ends) (λ number. ends) e h z;
+        stricts = refused (recordLines w) (written (separatedCflInEnds w) strict) (λ number. strict) e h z;
       }
 
 -- ---- a record that is accepted
@@ -63,39 +64,39 @@ module _ (w : List ℕ) (e : tried (recordLines w) ≡ Passed) where
   icfl-passes work entries h k =
       let u = unmet (recordLines w) e in
       let works = le-ltb work (3 * length w) (omega (arith, accepted w [] e .short)) in
-      let stores = le-ltb entries (length (icflEnds w)) (omega (arith, rises-few (icfl-ends-rise w), accepted w [] e .short)) in
+      let stores = le-ltb entries (length (separatedIcflEnds w)) (omega (arith, rises-few (separated-icfl-ends-rise w), accepted w [] e .short)) in
       all-pass (icflLines w work entries) (u .0, (u .1 .0, (works, (stores, search))))
 
   cfl-in-passes : (entries : ℕ) → mostLetters ≤ entries → tried (cflInLines w entries) ≡ Passed
   cfl-in-passes entries k =
       let u = unmet (recordLines w) e in
-      let stores = le-ltb entries (length (cflInEnds w)) (omega (arith, rises-few (cfl-in-ends-rise w), accepted w [] e .short)) in
+      let stores = le-ltb entries (length (separatedCflInEnds w)) (omega (arith, rises-few (separated-cfl-in-ends-rise w), accepted w [] e .short)) in
       all-pass (cflInLines w entries) (u .0, (u .1 .0, (stores, search)))
 
-  summary-passes : tried (summaryLines w (icflEnds w)) ≡ Passed
+  summary-passes : tried (summaryLines w (separatedIcflEnds w)) ≡ Passed
   summary-passes =
       let u = unmet (recordLines w) e in
-      let ends : EndsOf (length w) (icflEnds w) = record { some = rises-some (icfl-ends-rise w) (accepted w [] e .nonempty); rises = icfl-ends-rise w } in
-      all-pass (summaryLines w (icflEnds w)) (u .0, (u .1 .0, (ends-pass (icflEnds w) (length w) ends, search)))
+      let ends : EndsOf (length w) (separatedIcflEnds w) = record { some = rises-some (separated-icfl-ends-rise w) (accepted w [] e .nonempty); rises = separated-icfl-ends-rise w } in
+      all-pass (summaryLines w (separatedIcflEnds w)) (u .0, (u .1 .0, (ends-pass (separatedIcflEnds w) (length w) ends, search)))
 
-  listing-is : listingOf w ≡ sevenLines (length w) (icflEnds w) (cflInEnds w) (summaryOf (icflEnds w))
+  listing-is : listingOf w ≡ sevenLines (length w) (separatedIcflEnds w) (separatedCflInEnds w) (summaryOf (separatedIcflEnds w))
   unfolding listingOf
   listing-is = rw e
 
   listing-most : length (listingOf w) ≤ 10 * mostLetters + 256
   unfolding sevenLines
-  listing-most = rw (listing-is, total-is (linesOf (length w) (icflEnds w) (cflInEnds w) (summaryOf (icflEnds w)))) (total-most w (accepted w [] e))
+  listing-most = rw (listing-is, total-is (linesOf (length w) (separatedIcflEnds w) (separatedCflInEnds w) (summaryOf (separatedIcflEnds w)))) (total-most w (accepted w [] e))
 
 -- the lines that a record's cuts and its summary give
 module _ (w ends strict out : List ℕ) (c : CutLists w ends strict out) (s : Summary) (x : Summarized w ends s) where
-  summary-is : s ≡ summaryOf (icflEnds w)
+  summary-is : s ≡ summaryOf (separatedIcflEnds w)
   summary-is = x .answer ∙ rw (c .pieces, summary-passes w (c .accepted))
 
   pub printable : Printable (length w) ends strict s out
   unfolding summaryOf
   printable = record {
     room = rw (summary-is, c .pieces, c .stricts) (omega (arith, c .writing, total-most w (accepted w [] (c .accepted))));
-    thirteen = rw summary-is (sym (bands-length (icflEnds w)));
+    thirteen = rw summary-is (sym (bands-length (separatedIcflEnds w)));
   }
 
   pub lines-are : sevenLines (length w) ends strict s ≡ listingOf w

@@ -4,7 +4,7 @@ use mathlib.Core.Path.{_≡_}
 use mathlib.Core.List.{List, [], _∷_, flatten}
 use Prim.Native.Nat.{ℕ, _*_}
 use lib.ListN.{length}
-use Rattle.words.specs.Factorizations.{icflEnds, cflInEnds}
+use Rattle.words.specs.Separated.{separatedIcflEnds, separatedCflInEnds}
 use Rattle.buffers.specs.Buffers.{cleared, written}
 use Rattle.checks.specs.Lines.{tried, _unless_then_, recordLines}
 use Rattle.summary.specs.Summary.{summaryOf}
@@ -34,13 +34,13 @@ refusedLine number = line (ascii "refused") (decimal number)
 
 -- the listing of a record
 unfoldable pub listingOf : List ℕ → List ℕ
-unfolding decimal line sevenLines icflEnds cflInEnds summaryOf tried
-listingOf w = sevenLines (length w) (icflEnds w) (cflInEnds w) (summaryOf (icflEnds w)) unless recordLines w then refusedLine
+unfolding decimal line sevenLines separatedIcflEnds separatedCflInEnds summaryOf tried
+listingOf w = sevenLines (length w) (separatedIcflEnds w) (separatedCflInEnds w) (summaryOf (separatedIcflEnds w)) unless recordLines w then refusedLine
 
 -- what the call answers and leaves in its buffers: the listing's length, the listing at the front of out, and the others as the two cuts leave them
 pub record Listed (w work ends strict out : List ℕ) (r : ℕ) (work′ ends′ strict′ out′ : List ℕ) : Type 0 where
   pub size : r ≡ length (listingOf w)
   pub text : out′ ≡ written (listingOf w) out
   pub worked : work′ ≡ cleared (3 * length w) work unless recordLines w then (λ number. work)
-  pub pieces : ends′ ≡ written (icflEnds w) ends unless recordLines w then (λ number. ends)
-  pub stricts : strict′ ≡ written (cflInEnds w) strict unless recordLines w then (λ number. strict)
+  pub pieces : ends′ ≡ written (separatedIcflEnds w) ends unless recordLines w then (λ number. ends)
+  pub stricts : strict′ ≡ written (separatedCflInEnds w) strict unless recordLines w then (λ number. strict)

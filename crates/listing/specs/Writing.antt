@@ -4,7 +4,7 @@ use mathlib.Core.List.{List, [], _∷_}
 use Prim.Native.Nat.{ℕ, _+_, _*_, _≤_}
 use lib.ListN.{length}
 use Rattle.words.specs.Words.{mostLetters}
-use Rattle.words.specs.Factorizations.{icflEnds, cflInEnds}
+use Rattle.words.specs.Separated.{separatedIcflEnds, separatedCflInEnds}
 use Rattle.checks.specs.Lines.{tried, recordLines}
 use Rattle.checks.specs.declared.Checked.the-variants.{Passed}
 use Rattle.checks.specs.declared.Counted.{Counted}
@@ -24,8 +24,8 @@ pub record Printable (n : ℕ) (ends strict : List ℕ) (summary : Summary) (out
 -- the ends of both cuts of an accepted record, and room for its listing
 pub record CutLists (w ends strict out : List ℕ) : Type 0 where
   pub accepted : tried (recordLines w) ≡ Passed
-  pub pieces : ends ≡ icflEnds w
-  pub stricts : strict ≡ cflInEnds w
+  pub pieces : ends ≡ separatedIcflEnds w
+  pub stricts : strict ≡ separatedCflInEnds w
   pub writing : 10 * mostLetters + 256 ≤ length out
 
 -- buffers with room for every record: three entries a letter, one end a letter, and for the listing five bytes an end of each cut and 256 for all else

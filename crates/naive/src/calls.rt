@@ -1,4 +1,4 @@
-//! The calls by name, and what those that are lent buffers answer, as lists of numbers: in the faster way and by the definitions.
+//! The calls by name, and what those that are lent buffers answer on a record without marks, as lists of numbers: in the faster ways and by the definitions.
 use super::access::minus;
 use super::access::plus;
 use super::access::store_three;
@@ -53,8 +53,8 @@ pub fn needed(call: Call, n: usize, list: usize, breaks: usize) -> Room {
     Room { work, list, breaks }
 }
 
-// Writes the list that a call answers, in the faster way. Answers how many entries it has.
-fn list_of(call: Call, word: &[u8], list: &mut [u16]) -> usize {
+// The list of a call in the faster ways.
+fn list_by_faster_ways(call: Call, word: &[u8], list: &mut [u16]) -> usize {
     match call {
         Call::Test => verdict(word, failing_length(word), list),
         Call::Pieces | Call::Breaks => pieces_by_fold(word, list),
@@ -75,24 +75,18 @@ fn list_by_definition(call: Call, word: &[u8], list: &mut [u16]) -> usize {
     }
 }
 
-// Writes the breaks that a call answers beside its list, by the definitions or in the faster way. Answers how many entries they have.
-fn breaks_of(call: Call, word: &[u8], defined: bool, breaks: &mut [u16]) -> usize {
+/// Writes the list that a call answers on a record without marks: by the definitions (`defined`), or in the faster ways. Answers how many entries it has.
+pub fn list_of(call: Call, word: &[u8], defined: bool, list: &mut [u16]) -> usize {
+    if defined {
+        return list_by_definition(call, word, list);
+    }
+    list_by_faster_ways(call, word, list)
+}
+
+/// The same of the breaks that a call answers beside its list.
+pub fn breaks_of(call: Call, word: &[u8], defined: bool, breaks: &mut [u16]) -> usize {
     match call {
         Call::Breaks => write_breaks(word, defined, breaks),
         _ => 0,
     }
-}
-
-/// Writes what a call that is lent buffers answers, nothing for the others. Answers the entries that it needs.
-pub fn answer(call: Call, word: &[u8], list: &mut [u16], breaks: &mut [u16]) -> Room {
-    let count = list_of(call, word, list);
-    let beside = breaks_of(call, word, false, breaks);
-    needed(call, word.len(), count, beside)
-}
-
-/// The same by the definitions, which take cubic time.
-pub fn answer_by_definition(call: Call, word: &[u8], list: &mut [u16], breaks: &mut [u16]) -> Room {
-    let count = list_by_definition(call, word, list);
-    let beside = breaks_of(call, word, true, breaks);
-    needed(call, word.len(), count, beside)
 }

@@ -9,7 +9,8 @@ mod pieces; // the piece cut by its recursive definition
 mod fold; // the piece cut as a fold over the strict cut
 mod breaks; // the breaks of the piece cut, step by step
 mod parts; // the parts that a list of ends marks, and their summary
-mod calls; // the calls by name, and the lists that they answer
+mod calls; // the calls by name, and the lists that they answer on a record without marks
+mod stretches; // the same on records with marks, stretch by stretch
 mod refusals; // the table of refusals
 
 pub use access::BREAK_ENTRIES;
@@ -25,8 +26,6 @@ pub use access::store_three;
 pub use access::tail;
 pub use calls::Call;
 pub use calls::Room;
-pub use calls::answer;
-pub use calls::answer_by_definition;
 pub use calls::needed;
 pub use order::common;
 pub use order::sign;
@@ -39,3 +38,6 @@ pub use refusals::lent_refusal;
 pub use refusals::part_refusal;
 pub use refusals::range_refusal;
 pub use refusals::summary_refusal;
+pub use stretches::SEPARATOR;
+pub use stretches::answer;
+pub use stretches::answer_by_definition;

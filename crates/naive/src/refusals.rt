@@ -1,6 +1,8 @@
-//! Paper 01's table of refusals. Each function gives the number of the first line that is met, 0 for none.
+//! Paper 01's table of refusals, with the lines that requests add. Each function gives the number of the first line that is met, 0 for none.
 use super::access::entry;
+use super::calls::Call;
 use super::calls::Room;
+use super::stretches::refuses_separator;
 
 // A line of the table: its number where it is met, else what the lines below it say.
 fn line(met: bool, number: u8, below: u8) -> u8 {
@@ -13,13 +15,14 @@ fn record_lines(n: usize, below: u8) -> u8 {
 }
 
 /// A call that is lent buffers: the entries that it needs, and those that it is lent.
-pub fn lent_refusal(n: usize, needed: Room, lent: Room) -> u8 {
+pub fn lent_refusal(call: Call, word: &[u8], needed: Room, lent: Room) -> u8 {
     let results = line(
         lent.list < needed.list,
         4,
         line(lent.breaks < needed.breaks, 4, 0),
     );
-    record_lines(n, line(lent.work < needed.work, 3, results))
+    let separator = line(refuses_separator(call, word), 9, results);
+    record_lines(word.len(), line(lent.work < needed.work, 3, separator))
 }
 
 /// The comparison.

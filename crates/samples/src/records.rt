@@ -1,4 +1,8 @@
 //! The records on which the calls are compared. Each function writes one and answers its length.
+use super::marks::Marks;
+use super::marks::marks_at;
+use super::marks::put_marks;
+use super::marks::random_marks;
 use super::run::Run;
 use super::run::draw;
 use super::shapes::Shape;
@@ -18,7 +22,7 @@ fn alphabet(run: &mut Run) -> usize {
     }
 }
 
-// Periodic with a short period or one of about half the length, plateaus, a ramp, or letters at random.
+// Periodic with a short period or one of about half the length, plateaus, a ramp, joins, or letters at random.
 fn random_shape(kind: usize, n: usize, letters: usize, run: &mut Run) -> Shape {
     match kind {
         0 | 1 => Shape::Periodic {
@@ -36,15 +40,16 @@ fn random_shape(kind: usize, n: usize, letters: usize, run: &mut Run) -> Shape {
         6 => Shape::Falling {
             width: draw(run, 13),
         },
+        7 => Shape::Joins,
         _ => Shape::Periodic { letters, period: n },
     }
 }
 
-/// A pseudo-random record of 1 to `most` letters; of the periodic ones some have one new letter.
-pub fn random_record(word: &mut [u8], most: usize, run: &mut Run) -> usize {
+// A pseudo-random record of 1 to `most` letters, before marks are put into it; of the periodic ones some have one new letter.
+fn random_letters(word: &mut [u8], most: usize, run: &mut Run) -> usize {
     let n = plus(1, draw(run, most));
     let letters = alphabet(run);
-    let kind = draw(run, 9);
+    let kind = draw(run, 10);
     let shape = random_shape(kind, n, letters, run);
     write(word, n, shape, run);
     if (kind == 1) | (kind == 3) {
@@ -54,7 +59,15 @@ pub fn random_record(word: &mut [u8], most: usize, run: &mut Run) -> usize {
     n
 }
 
-// One of eight shapes: all equal, random over 2 and over 256 letters, rising, falling, c^k a c^k b, plateaus, periodic.
+/// A pseudo-random record of 1 to `most` letters, with marks or without.
+pub fn random_record(word: &mut [u8], most: usize, run: &mut Run) -> usize {
+    let n = random_letters(word, most, run);
+    let marks = random_marks(run);
+    put_marks(word, n, marks, run);
+    n
+}
+
+// One of eight shapes, none with a mark: all equal, random over 2 and over 255 letters, rising, falling, c^k a c^k b, plateaus, periodic.
 fn shape_at(which: usize, n: usize) -> Shape {
     match which {
         0 => Shape::Periodic {
@@ -66,11 +79,11 @@ fn shape_at(which: usize, n: usize) -> Shape {
             period: n,
         },
         2 => Shape::Periodic {
-            letters: 256,
+            letters: 255,
             period: n,
         },
-        3 => Shape::Rising { width: 15 },
-        4 => Shape::Falling { width: 15 },
+        3 => Shape::Rising { width: 16 },
+        4 => Shape::Falling { width: 16 },
         5 => Shape::Powers,
         6 => Shape::Plateaus { letters: 3 },
         _ => Shape::Periodic {
@@ -93,8 +106,15 @@ fn length_at(which: usize) -> usize {
     }
 }
 
-/// One of eight shapes of a length at the boundaries, each by its number.
+/// One of sixteen shapes of a length at the boundaries, each by its number: eight without marks, then the same with marks of a kind each.
 pub fn shaped_record(word: &mut [u8], length: usize, shape: usize, run: &mut Run) -> usize {
     let n = length_at(length);
-    write(word, n, shape_at(shape, n), run)
+    let marks = if shape < 8 {
+        Marks::Nowhere
+    } else {
+        marks_at(shape - 8)
+    };
+    write(word, n, shape_at(shape % 8, n), run);
+    put_marks(word, n, marks, run);
+    n
 }

@@ -14,10 +14,12 @@ pub enum Shape {
     Plateaus { letters: usize },
     /// Rising: the next letter after every `width` + 1 places.
     Rising { width: usize },
-    /// Falling in the same way.
+    /// Falling in the same way, from the greatest letter that is no mark.
     Falling { width: usize },
     /// c^k a c^k b.
     Powers,
+    /// Paper 01's record I, which is cut with a join, and a mark, again and again.
+    Joins,
 }
 
 /// The word of a number in the list of all words over a, b, .. by length: 1 is a, and the digits are those of the bijective numeration. Answers its length.
@@ -66,8 +68,9 @@ fn letter_of(word: &[u8], n: usize, i: usize, shape: Shape, run: &mut Run) -> us
             new_or_earlier(draw(run, 4) == 0, new, word, i, 1)
         }
         Shape::Rising { width } => i / (width % 256 + 1),
-        Shape::Falling { width } => minus(255, i / (width % 256 + 1)),
+        Shape::Falling { width } => minus(254, i / (width % 256 + 1)),
         Shape::Powers => letter_of_powers(n, i),
+        Shape::Joins => letter(b"cbabacaacbabacbac\xff", i % 18) as usize,
     }
 }
 

@@ -1,16 +1,21 @@
 -- What the code reads of two words tells whether u comes before v in the inverse order: a letter where they differ, or else their lengths. First
--- letters that differ, and a single letter as the first word, are cases of it.
-use mathlib.Core.Path.{_≡_, sym}
+-- letters that differ, and a single letter as the first word, are cases of it. And whether a letter joins v (none-joins, same-joins,
+-- other-joins).
+use mathlib.Core.Path.{_≡_, refl, sym, _∙_}
 use mathlib.Core.List.{List, [], _∷_}
-use mathlib.Core.Bool.{Bool, false}
+use mathlib.Core.Bool.{Bool, false, not, _&&_}
 use Prim.Native.Nat.{ℕ, suc, _≤_, _<_, min}
 use native.Mathlib.Omega.{arith}
 use lib.ListN.{length, getD}
-use lib.Dec.{ltb}
+use native.Mathlib.Decide.{ℕ-discrete}
+use borrow.Author.Tests.{le-ltb}
+use lib.Dec.{ltb, eqb}
 use Rattle.words.specs.Words.{_≺_, mismatch}
 use Rattle.words.specs.orders.InverseLaws.{_≼_, won, pre, ≼-antisym, ≺-≼, ≺-irrefl}
-use Rattle.words.specs.orders.Decisions.{Decides, holds, fails, leb-test}
+use Rattle.words.specs.orders.Decisions.{Decides, holds, fails, leb-test, eqb-test, decides-false}
+use Rattle.words.specs.Separated.{separator}
 use Rattle.words.specs.orders.CommonLength.{Agree, matched-none, matched-more, agree-sym, agree-⊑, agree-shorter, agree-≪, agree-≪-sym}
+use Rattle.table.specs.Steps.{SeparatorAlone, LetterJoins}
 
 not-before : {u v : List ℕ} → v ≼ u → ¬ (u ≺ v)
 not-before h k = ≺-irrefl (rw (≼-antisym (≺-≼ k) h) at k)
@@ -52,3 +57,25 @@ pub letter-decides : (a : ℕ) (v : List ℕ) → 0 < length v → getD v 0 0 �
 letter-decides a v p e = lengths-decide {l = 1}
     (record { matched = matched-more (a ∷ []) v 0 (matched-none (a ∷ []) v) (omega arith) p (sym e); differ = λ h k. absurd (omega arith) })
     (omega arith)
+
+-- ---- a letter that is no separator
+
+pub none-joins : (a : ℕ) (v : List ℕ) → length v ≡ 0 → Decides (LetterJoins a v) false
+none-joins a v z = decided-by (λ h. absurd (decides-false (none-after (a ∷ []) v z) refl h)) (λ h x. h (x .comes)) (none-after (a ∷ []) v z)
+
+-- the letter is the first of v
+pub same-joins : (a : ℕ) (v : List ℕ) → SeparatorAlone v → 0 < length v → getD v 0 0 ≡ a → Decides (LetterJoins a v) (ltb 1 (length v))
+same-joins a v s p e = go (ℕ-discrete a separator)
+  where
+    go : Dec (a ≡ separator) → Decides (LetterJoins a v) (ltb 1 (length v))
+    go (yes z) = rw (le-ltb 1 (length v) (s (e ∙ z))) (fails (λ x. x .other z))
+    go (no n) = decided-by (λ h. record { other = n; comes = h }) (λ h x. h (x .comes)) (letter-decides a v p e)
+
+-- it is not
+pub other-joins : (a : ℕ) (v : List ℕ) → 0 < length v → ¬ (getD v 0 0 ≡ a) → Decides (LetterJoins a v) (ltb (getD v 0 0) a && not (eqb a separator))
+other-joins a v p d = go (first-decide (a ∷ []) v (omega arith) p d) (eqb-test a separator)
+  where
+    go : {s t : Bool} → Decides ((a ∷ []) ≺ v) s → Decides (a ≡ separator) t → Decides (LetterJoins a v) (s && not t)
+    go (holds h) (holds e) = fails (λ x. x .other e)
+    go (holds h) (fails n) = holds (record { other = n; comes = h })
+    go (fails h) t = fails (λ x. h (x .comes))

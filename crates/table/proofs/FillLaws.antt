@@ -8,37 +8,38 @@ use lib.ListN.{length, drop, getD, set, length-append, length-drop, take-append-
 use lib.Seq.{drop-at}
 use Rattle.buffers.specs.Buffers.{written}
 use Rattle.buffers.proofs.BufferLaws.{FilledFrom, filled-store, filled-read}
-use Rattle.words.specs.Factorizations.{lyndonTable}
-use Rattle.words.specs.lyndon.AntiLyndonLaws.{longest-is}
-use Rattle.words.specs.table.LyndonTableCflIn.{lyndon-table-length, lyndon-table-at}
+use Rattle.words.specs.Separated.{UpToSeparator, separatedTable}
+use Rattle.words.specs.stretches.TableEntries.{separated-table-length}
 use Rattle.table.specs.Steps.{TableRoom, NextKnown}
-use Rattle.table.proofs.MergeLaws.{table-end}
+use Rattle.table.proofs.EntryLaws.{table-end, entry-at, entry-fits}
 
 -- the buffer with the table written
 abbrev tabled : List ℕ → List ℕ → List ℕ
-tabled w out₀ = written (lyndonTable w) out₀
+tabled w out₀ = written (separatedTable w) out₀
 
 -- where the loop stands: the table is written from i on, and next is the entry at i
 pub record Filling (w out₀ out : List ℕ) (i next : ℕ) : Type 0 where
+  pub letters : UpToSeparator w
   pub upto : i ≤ length w
-  pub entry : next ≡ getD (lyndonTable w) i 0
+  pub entry : next ≡ getD (separatedTable w) i 0
   pub filled : FilledFrom (tabled w out₀) out₀ out i
 
 module _ {w out₀ : List ℕ} (f : TableRoom w out₀) where
   tabled-length : length (tabled w out₀) ≡ length out₀
-  tabled-length = simp (length-append, length-drop, lyndon-table-length) (omega (arith, f .room))
+  tabled-length = simp (length-append, length-drop, separated-table-length) (omega (arith, f .room))
 
-  tabled-at : (k : ℕ) → k < length w → getD (tabled w out₀) k 0 ≡ getD (lyndonTable w) k 0
-  tabled-at k l = List·getD-append (lyndonTable w) (drop (length (lyndonTable w)) out₀) 0 k (rw (lyndon-table-length w) l)
+  tabled-at : (k : ℕ) → k < length w → getD (tabled w out₀) k 0 ≡ getD (separatedTable w) k 0
+  tabled-at k l = List·getD-append (separatedTable w) (drop (length (separatedTable w)) out₀) 0 k (rw (separated-table-length w) l)
 
-  pub fill-begins : Filling w out₀ out₀ (length w) 0
-  fill-begins =
-      let n : length (lyndonTable w) ≡ length w = lyndon-table-length w in
+  pub fill-begins : UpToSeparator w → Filling w out₀ out₀ (length w) 0
+  fill-begins b =
+      let n : length (separatedTable w) ≡ length w = separated-table-length w in
       record {
+        letters = b;
         upto = omega arith;
         entry = sym (table-end w (length w) (le-refl _));
         filled = record {
-          content = rw (n, drop-at (lyndonTable w) (drop (length w) out₀) (length w) n) (sym (take-append-drop (length w) out₀));
+          content = rw (n, drop-at (separatedTable w) (drop (length w) out₀) (length w) n) (sym (take-append-drop (length w) out₀));
           same = refl;
         };
       }
@@ -47,6 +48,7 @@ module _ {w out₀ : List ℕ} (f : TableRoom w out₀) where
     pub fill-asks : NextKnown w out (i - 1) next
     fill-asks = record {
       after = record {
+        letters = g .letters;
         inside = omega (arith, g .upto);
         room = omega (arith, f .room, g .filled .same);
         entries = λ k a b. filled-read k (omega (arith, f .room, g .upto)) (omega arith) (g .filled) ∙ tabled-at k b;
@@ -54,12 +56,12 @@ module _ {w out₀ : List ℕ} (f : TableRoom w out₀) where
       entry = let s : i - 1 + 1 ≡ i = omega arith in rw s (g .entry);
     }
 
-    module _ {n : ℕ} (e : n ≡ getD (lyndonTable w) (i - 1) 0) where
+    module _ {n : ℕ} (e : n ≡ getD (separatedTable w) (i - 1) 0) where
       -- an entry is at most the length
       pub fill-short : n ≤ length w
       fill-short =
-          let entry = lyndon-table-at w (i - 1) (omega (arith, g .upto)) in
-          omega (arith, longest-is (drop (i - 1) w) .upto, length-drop (i - 1) w)
+          let l : i - 1 < length w = omega (arith, g .upto) in
+          omega (arith, entry-fits (entry-at w (g .letters) (i - 1) l) l)
 
       pub fill-turn : Filling w out₀ (set out (i - 1) n) (i - 1) n
       fill-turn =
@@ -67,6 +69,7 @@ module _ {w out₀ : List ℕ} (f : TableRoom w out₀) where
           let read : getD (tabled w out₀) (i - 1) 0 ≡ n = tabled-at (i - 1) (omega (arith, g .upto)) ∙ sym e in
           let from : FilledFrom (tabled w out₀) out₀ out (suc (i - 1)) = rw s (g .filled) in
           record {
+            letters = g .letters;
             upto = omega (arith, g .upto);
             entry = e;
             filled = rw read at (filled-store (omega (arith, f .room, g .upto)) (omega (arith, f .room, g .upto, tabled-length)) from);

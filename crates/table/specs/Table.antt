@@ -2,7 +2,7 @@
 use mathlib.Core.List.{List, [], _∷_, _++_}
 use Prim.Native.Nat.{ℕ}
 use lib.ListN.{length}
-use Rattle.words.specs.Factorizations.{lyndonTable}
+use Rattle.words.specs.Separated.{separatedTable}
 use Rattle.checks.specs.Lines.{Line, recordLines, resultLine}
 use Rattle.checks.specs.Answers.{Filled}
 use Rattle.checks.specs.declared.Counted.{Counted}
@@ -13,4 +13,4 @@ tableLines w entries = recordLines w ++ resultLine entries (length w) ∷ []
 
 -- the call's promise: its answer, and the result buffer whole
 abbrev pub Tabled : List ℕ → List ℕ → Counted → List ℕ → Type 0
-Tabled w out r out′ = Filled (tableLines w (length out)) (length w) (lyndonTable w) out r out′
+Tabled w out r out′ = Filled (tableLines w (length out)) (length w) (separatedTable w) out r out′

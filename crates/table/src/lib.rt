@@ -1,4 +1,5 @@
-//! The Lyndon table (start table): at each place, the length of the longest anti-Lyndon word that starts there.
+//! The Lyndon table (start table): at each place, the length of the longest anti-Lyndon word that starts there and does not reach past the
+//! stretch that the place lies in.
 use checks::Checked;
 use checks::Counted;
 
@@ -15,8 +16,8 @@ fn admit(word: &[u8], entries: usize) -> Checked
     checks::check_record(word).then(checks::check_result(entries, word.len()))
 }
 
-/// The start table: writes the Lyndon table into the first entries of `lengths`, as many as the word has letters, and answers their number.
-/// Refusals 1, 2, 4.
+/// The start table: writes the Lyndon table of each stretch between separators, with 1 for a separator, into the first entries of `lengths`,
+/// as many as the word has letters, and answers their number. Refusals 1, 2, 4.
 pub fn lyndon_table(word: &[u8], lengths: &mut [u16]) -> Counted
     ensures { λ r. ⌜ Tabled (now (word .entry)) (now (lengths .entry)) r (now (lengths .exit)) ⌝ }
 {

@@ -1,13 +1,13 @@
 //! The Lyndon table by merging: from right to left, the longest anti-Lyndon word at a place is made of the letter there and the
-//! longest words that follow, as long as each comes after what stands before it.
+//! longest words that follow, as long as each comes after what stands before it. A separator is a word alone; it comes before every word
+//! that begins below it, so it joins none.
 ghost use mathlib.Core.Path.{_≡_};
-ghost use mathlib.Core.List.{[], _∷_};
 ghost use lib.ListN.{getD};
 ghost use Rattle.words.specs.Words.{_≺_};
-ghost use Rattle.words.specs.Factorizations.{lyndonTable};
+ghost use Rattle.words.specs.Separated.{separatedTable};
 ghost use Rattle.words.specs.orders.Decisions.{Decides};
 ghost use Rattle.buffers.specs.Buffers.{written};
-ghost use Rattle.table.specs.Steps.{TableRoom, NextKnown, MergedTo, BothBegin};
+ghost use Rattle.table.specs.Steps.{TableRoom, NextKnown, MergedTo, BothBegin, SeparatorAlone, LetterJoins};
 
 // Whether u comes before v in the inverse order. Their first letters decide most often. The test after the common length repeats that
 // of the loop in `common_length`, so that the compiler can join them.
@@ -27,9 +27,11 @@ fn comes_before(u: &[u8], v: &[u8]) -> bool
     u.len() < v.len()
 }
 
-// Whether a letter, as a word, comes before v in the inverse order.
-fn letter_comes_before(a: u8, v: &[u8]) -> bool
-    ensures { λ r. ⌜ Decides ((a ∷ []) ≺ now (v .entry)) r ⌝ }
+// Whether a letter joins the word v after it, which is a single letter if it begins with a separator. A separator joins none; it is looked
+// for only where the first letters differ, since two of them do not join anyhow.
+fn letter_joins(a: u8, v: &[u8]) -> bool
+    requires { ⌜ SeparatorAlone (now v) ⌝ }
+    ensures { λ r. ⌜ Decides (LetterJoins a (now (v .entry))) r ⌝ }
 {
     if v.len() == 0 {
         return false;
@@ -38,13 +40,14 @@ fn letter_comes_before(a: u8, v: &[u8]) -> bool
     if b == a {
         return 1 < v.len();
     }
-    b < a
+    (b < a) & (a != words::SEPARATOR)
 }
 
-// Entry i of the table: the word from i to `from` is anti-Lyndon, and the words that follow join it as long as they come after it.
+// Entry i of the table: the word from i to `from` is anti-Lyndon and begins with no separator, and the words that follow join it as long as
+// they come after it.
 fn longest_from(word: &[u8], lengths: &[u16], i: usize, from: usize) -> usize
     requires { ⌜ MergedTo (now word) (now lengths) i from ⌝ }
-    ensures { λ r. ⌜ r ≡ getD (lyndonTable (now (word .entry))) i 0 ⌝ }
+    ensures { λ r. ⌜ r ≡ getD (separatedTable (now (word .entry))) i 0 ⌝ }
 {
     let mut j = from;
     while j < word.len() {
@@ -60,10 +63,10 @@ fn longest_from(word: &[u8], lengths: &[u16], i: usize, from: usize) -> usize
 // Entry i of the table, from the entries after it; `next` is the first of them, 0 if there is none.
 fn longest_at(word: &[u8], lengths: &[u16], i: usize, next: usize) -> usize
     requires { ⌜ NextKnown (now word) (now lengths) i next ⌝ }
-    ensures { λ r. ⌜ r ≡ getD (lyndonTable (now (word .entry))) i 0 ⌝ }
+    ensures { λ r. ⌜ r ≡ getD (separatedTable (now (word .entry))) i 0 ⌝ }
 {
     let j = i + 1;
-    if !letter_comes_before(word[i], &word[j..j + next]) {
+    if !letter_joins(word[i], &word[j..j + next]) {
         return 1;
     }
     longest_from(word, lengths, i, j + next)
@@ -72,7 +75,7 @@ fn longest_at(word: &[u8], lengths: &[u16], i: usize, next: usize) -> usize
 // Writes the table from its last entry on. The entry just written is handed on, the others are read again.
 pub fn fill_table(word: &[u8], lengths: &mut [u16])
     requires { ⌜ TableRoom (now word) (now lengths) ⌝ }
-    ensures { λ r. ⌜ now (lengths .exit) ≡ written (lyndonTable (now (word .entry))) (now (lengths .entry)) ⌝ }
+    ensures { λ r. ⌜ now (lengths .exit) ≡ written (separatedTable (now (word .entry))) (now (lengths .entry)) ⌝ }
 {
     let mut i = word.len();
     let mut n: usize = 0;

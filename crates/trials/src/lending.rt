@@ -121,7 +121,7 @@ fn lent_is(call: Call, word: &[u8], lent: Room, want: &[u16], want_breaks: &[u16
     fill(&mut breaks, SALT);
     let answer = lend(call, word, lent, &mut work, &mut list, &mut breaks);
     let least = needed(call, word.len(), want.len(), want_breaks.len());
-    let refused = naive::lent_refusal(word.len(), least, lent);
+    let refused = naive::lent_refusal(call, word, least, lent);
     is_answer(answer, refused, least)
         & is_left(&work, cleared(refused, least), front(want, 0), WORK_SALT)
         & is_left(&list, 0, written(refused, want), SALT)

@@ -47,10 +47,10 @@ abbrev pub d : ℕ
 d = 100
 
 -- a break at a place, with the place where its step began and |r|
-abbrev keptAt : (place begun border a b : ℕ) → Break
+abbrev pub keptAt : (place begun border a b : ℕ) → Break
 keptAt place begun border a b = record { place = place; begun = begun; border = border; fate = Kept a b }
 
-abbrev joinedAt : (place begun border shortfall : ℕ) → Break
+abbrev pub joinedAt : (place begun border shortfall : ℕ) → Break
 joinedAt place begun border shortfall = record { place = place; begun = begun; border = border; fate = Joined shortfall }
 
 infix 20 _gives_

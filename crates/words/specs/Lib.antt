@@ -40,7 +40,10 @@
 pub mod Words
 pub mod Factorizations
 pub mod Statements
+pub mod Separated
+pub mod SeparatedStatements
 pub mod Examples
+pub mod SeparatedExamples
 pub mod Counterexamples
 pub mod orders
 pub mod lyndon
@@ -51,3 +54,4 @@ pub mod cfl_in
 pub mod places
 pub mod scan
 pub mod table
+pub mod stretches

@@ -1,5 +1,8 @@
-//! The theory of words and their two factorizations. Everything is in specs/: Words, Factorizations and Statements have the definitions. The two types
-//! here are those that the definition of the breaks is stated in, and in which the code holds one.
+//! The theory of words and their two factorizations. Everything is in specs/: Words, Factorizations, Statements and the two files Separated
+//! have the definitions. The two types here are those that the definition of the breaks is stated in, and in which the code holds one.
+
+/// The separator letter (request 103: a mark, which a board writes when its thermocouple is open).
+pub const SEPARATOR: u8 = 255;
 
 /// What became of a break: kept, with the letters after both copies of r, the smaller first; or joined, with |r| less the length of the factor that was joined.
 pub enum Fate {

@@ -3,6 +3,10 @@ use super::raw::Summary;
 use super::Extension;
 use metsroeb::MOST;
 
+/// A mark is a factor of every cut by itself. It is larger than every other letter, so a scan that does not begin with one ends
+/// before it.
+const SEPARATOR: u8 = 255;
+
 fn check_record(record: &[u8]) -> Result<(), u8> {
     match record.len() {
         0 => Err(1),
@@ -25,12 +29,21 @@ fn check_ends(ends: &[u16], length: usize) -> Result<(), u8> {
     Ok(())
 }
 
-/// Scans to the first letter larger than the one it meets, with the border table, and walks down the borders there.
-fn extension_of(word: &[u8], table: &mut [u16]) -> Extension {
+/// What a scan finds: a letter larger than the one it meets, with p and r there; or that there is none before a mark or the end.
+enum Scanned {
+    Break { prefix: usize, border: usize },
+    Falling { length: usize },
+}
+
+/// Scans with the border table, and walks down the borders at a break. The word does not begin with a mark.
+fn scan(word: &[u8], table: &mut [u16]) -> Scanned {
     let (mut border, mut length) = (0, 1);
     while length < word.len() {
         let (new, met) = (word[length], word[border]);
         if met < new {
+            if new == SEPARATOR {
+                break;
+            }
             while border > 0 {
                 let next = table[border - 1] as usize;
                 if new <= word[next] {
@@ -38,44 +51,66 @@ fn extension_of(word: &[u8], table: &mut [u16]) -> Extension {
                 }
                 border = next;
             }
-            return Extension::Failing { failing: length + 1, prefix: length - border, border };
+            return Scanned::Break { prefix: length - border, border };
         }
         table[length - 1] = border as u16;
         border = if new == met { border + 1 } else { 0 };
         length += 1;
     }
-    Extension::InverseLyndon
+    Scanned::Falling { length }
 }
 
 pub fn find_extension(record: &[u8], work: &mut [u16]) -> Result<Extension, u8> {
     check_record(record)?;
     let Some(work) = work.get_mut(..record.len()) else { return Err(3) };
-    let found = extension_of(record, work);
+    if record.contains(&SEPARATOR) {
+        return Err(9);
+    }
+    let found = match scan(record, work) {
+        Scanned::Break { prefix, border } => Extension::Failing { failing: prefix + border + 1, prefix, border },
+        Scanned::Falling { .. } => Extension::InverseLyndon,
+    };
     work.fill(0);
     Ok(found)
 }
 
-/// Forward: the end of p and |r| of each break. Backward: the ends that are kept gather before the word's end, where the borders
-/// stood. Gives the ends and the breaks.
+/// Each stretch in its part of the work buffer. Forward: the end of p and |r| of each break. Backward: the ends that are kept
+/// gather before the stretch's end, where the borders stood; then they follow those before them. Gives the ends and the breaks.
 fn cut<'a>(record: &[u8], work: &'a mut [u16]) -> (&'a [u16], &'a [[u16; 2]]) {
     let (table, rest) = work.split_at_mut(record.len());
     let breaks = rest.as_chunks_mut().0;
-    let (mut from, mut count) = (0, 0);
-    while let Extension::Failing { prefix, border, .. } = extension_of(&record[from..], table) {
-        from += prefix;
-        breaks[count] = [from as u16, border as u16];
-        count += 1;
-    }
-    let breaks = &breaks[..count];
-    let mut top = record.len() - 1;
-    table[top] = record.len() as u16;
-    for &[place, border] in breaks.iter().rev() {
-        if place + border < table[top] {
-            top -= 1;
-            table[top] = place;
+    let (mut from, mut count, mut broken) = (0, 0, 0);
+    while from < record.len() {
+        if record[from] == SEPARATOR {
+            from += 1;
+            table[count] = from as u16;
+            count += 1;
+            continue;
         }
+        let (begun, before) = (from, broken);
+        let end = loop {
+            match scan(&record[from..], &mut table[begun..]) {
+                Scanned::Break { prefix, border } => {
+                    from += prefix;
+                    breaks[broken] = [from as u16, border as u16];
+                    broken += 1;
+                }
+                Scanned::Falling { length } => break from + length,
+            }
+        };
+        let mut top = end - 1;
+        table[top] = end as u16;
+        for &[place, border] in breaks[before..broken].iter().rev() {
+            if place + border < table[top] {
+                top -= 1;
+                table[top] = place;
+            }
+        }
+        table.copy_within(top..end, count);
+        count += end - top;
+        from = end;
     }
-    (&table[top..], breaks)
+    (&table[..count], &breaks[..broken])
 }
 
 pub fn icfl(record: &[u8], work: &mut [u16], ends: &mut [u16]) -> Result<usize, u8> {
@@ -93,10 +128,14 @@ pub fn icfl(record: &[u8], work: &mut [u16], ends: &mut [u16]) -> Result<usize, 
     answer
 }
 
-/// A break is kept where its place is the next end.
+/// A break is kept where its place is the next end. Where ends lie before it, a stretch and its mark are over.
 fn write_breaks(record: &[u8], ends: &[u16], breaks: &[[u16; 2]], result: &mut [[u16; 5]]) {
     let (mut begun, mut kept) = (0, 0);
     for (entries, &[place, border]) in result.iter_mut().zip(breaks) {
+        while ends[kept] < place {
+            begun = ends[kept];
+            kept += 1;
+        }
         let end = ends[kept];
         let [fourth, fifth] = if place == end {
             kept += 1;
@@ -125,10 +164,15 @@ pub fn icfl_with_breaks(record: &[u8], work: &mut [u16], ends: &mut [u16], break
     answer
 }
 
-/// Duval's algorithm in the inverse order.
+/// Duval's algorithm in the inverse order, in each stretch.
 fn duval(word: &[u8], mut emit: impl FnMut(usize)) {
     let mut from = 0;
     while from < word.len() {
+        if word[from] == SEPARATOR {
+            from += 1;
+            emit(from);
+            continue;
+        }
         let (mut met, mut at) = (from, from + 1);
         while at < word.len() && word[at] <= word[met] {
             met = if word[at] == word[met] { met + 1 } else { from };
@@ -165,14 +209,16 @@ fn comes_before(u: &[u8], v: &[u8]) -> bool {
     }
 }
 
-/// From right to left, a place's word takes the words after it as long as it comes before them.
+/// From right to left, a place's word takes the words after it as long as it comes before them; a mark takes none, and is taken
+/// by none.
 pub fn lyndon_table(record: &[u8], lengths: &mut [u16]) -> Result<usize, u8> {
     check_record(record)?;
     let n = record.len();
     let Some(lengths) = lengths.get_mut(..n) else { return Err(4) };
     for i in (0..n).rev() {
         let mut j = i + 1;
-        while j < n {
+        let end = if record[i] == SEPARATOR { j } else { n };
+        while j < end {
             let next = lengths[j] as usize;
             if !comes_before(&record[i..j], &record[j..j + next]) {
                 break;

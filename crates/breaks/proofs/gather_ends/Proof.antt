@@ -1,23 +1,11 @@
--- From entry top on stand the ends of what follows the breaks that are left; each turn takes one break off, and keeps its place or not.
+-- From entry top on stand the ends of what follows the cuts that are left; each turn takes one cut off, and keeps its place or not.
 use borrow.Author.Needs.{needs}
 use Prim.Native.Nat.{_+_, _-_, _*_, _≤_, _<_}
 use native.Mathlib.Omega.{arith}
 use lib.ListN.{length, set, length-set}
 use Rattle.words.specs.Words.{mostLetters}
-use Rattle.breaks.specs.Cutting.{CutRoom, Noted}
-use Rattle.breaks.proofs.NoteLaws.{few-noted}
-use Rattle.breaks.proofs.Gathering.{
-  Gathering,
-  started-room,
-  started-noted,
-  gather-starts,
-  top-inside,
-  note-inside,
-  top-positive,
-  joined-on,
-  kept-on,
-  gather-ends,
-}
+use Rattle.breaks.specs.Cutting.{CutRoom}
+use Rattle.breaks.proofs.Gathering.{Gathering, started-room, gather-starts, few, top-inside, note-inside, top-positive, joined-on, kept-on, gather-ends}
 use Rattle.breaks.proofs.gather_ends.Statement.{statement}
 use Rattle.breaks.proofs.gather_ends.Tie as tie
 
@@ -32,24 +20,21 @@ room-at : (c : tie.In-loop Inv-loop μ-loop) → (let start = c .before .before 
     CutRoom (start .args .word .now) (set (start .args .work .now) (length (start .args .word .now) - 1) (length (start .args .word .now))))
 room-at c = let start = c .before .before in started-room _ _ (start .args .count) (start .pre .0) (start .pre .1)
 
-noted-at : (c : tie.In-loop Inv-loop μ-loop) → (let start = c .before .before in
-    Noted (start .args .word .now) (set (start .args .work .now) (length (start .args .word .now) - 1) (length (start .args .word .now))) (start .args .count))
-noted-at c = let start = c .before .before in started-noted _ _ _ (start .pre .0) (start .pre .1)
-
--- a break's two entries lie in the buffer, and all numbers are small
+-- a cut's two entries lie in the buffer, and all numbers are small
 inside-at : (c : tie.In-loop Inv-loop μ-loop) → (let turn = c .before in let start = turn .before in
     (length (start .args .word .now) + 2 * (turn .loop .k - 1) + 1 < length (turn .loop .work)) × (turn .loop .top < length (turn .loop .work))
     × (turn .loop .top < length (start .args .word .now)) × (turn .loop .k ≤ mostLetters) × (length (start .args .word .now) ≤ mostLetters) × (0 < turn .loop .top))
 inside-at c =
     let turn = c .before in
     let start = turn .before in
-    let few = few-noted _ _ _ (start .pre .0 .nonempty) (start .pre .1) in (
-      note-inside _ _ _ _ _ _ _ (room-at c) (noted-at c) (turn .loop .inv) (c .loop-test .taken),
-      top-inside _ _ _ _ _ _ _ (room-at c) (noted-at c) (turn .loop .inv),
-      turn .loop .inv .high,
-      omega (arith, turn .loop .inv .upto, few, start .pre .0 .short),
+    let inv = turn .loop .inv in
+    let room = room-at c in (
+      note-inside _ _ _ _ _ _ _ room inv (c .loop-test .taken),
+      top-inside _ _ _ _ _ _ _ room inv,
+      inv .high,
+      omega (arith, inv .upto, few _ _ _ _ _ _ _ room inv, start .pre .0 .short),
       start .pre .0 .short,
-      top-positive _ _ _ _ _ _ _ (room-at c) (noted-at c) (turn .loop .inv) (c .loop-test .taken),
+      top-positive _ _ _ _ _ _ _ room inv (c .loop-test .taken),
     )
 
 sub-top : tie.Need-sub-top Inv-loop μ-loop
@@ -131,7 +116,7 @@ loop-less c = search needs
 loop-again : tie.Need-loop-again Inv-loop μ-loop
 loop-again c =
     let at-turn = c .before .before .before in
-    kept-on _ _ _ _ _ _ _ (room-at at-turn) (noted-at at-turn) (at-turn .before .loop .inv) (at-turn .loop-test .taken) (c .if1 .taken)
+    kept-on _ _ _ _ _ _ _ (room-at at-turn) (at-turn .before .loop .inv) (at-turn .loop-test .taken) (c .if1 .taken)
 
 loop-less-2 : tie.Need-loop-less-2 Inv-loop μ-loop
 loop-less-2 c = search needs
@@ -139,7 +124,7 @@ loop-less-2 c = search needs
 loop-again-2 : tie.Need-loop-again-2 Inv-loop μ-loop
 loop-again-2 c =
     let at-turn = c .before .before .before in
-    joined-on _ _ _ _ _ _ _ (room-at at-turn) (noted-at at-turn) (at-turn .before .loop .inv) (at-turn .loop-test .taken) (c .if1 .left)
+    joined-on _ _ _ _ _ _ _ (room-at at-turn) (at-turn .before .loop .inv) (at-turn .loop-test .taken) (c .if1 .left)
 
 same-length : tie.Need-same-length Inv-loop μ-loop
 same-length c = rw length-set at (c .before .loop .inv .long)

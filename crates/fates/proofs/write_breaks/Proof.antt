@@ -1,41 +1,40 @@
--- Each turn makes one break of its note and of the first end that is left, and writes it.
+-- Each turn tells one cut by its note and by the first end that is left, and writes it if it is a break.
 use mathlib.Core.Logic.{⊎-map}
 use Prim.Native.Nat.{_+_, _-_, _*_, _≤_, _<_}
 use native.Mathlib.Omega.{arith}
 use lib.ListN.{length}
 use Rattle.words.specs.Words.{mostLetters}
-use Rattle.fates.proofs.Writing.{Writing, write-starts, few, near-at, room-at, next-inside, write-on, write-ends}
+use Rattle.fates.proofs.Writing.{Writing, write-starts, note-inside, near-at, room-at, next-inside, write-on, write-ends}
 use Rattle.fates.proofs.write_breaks.Statement.{statement}
 use Rattle.fates.proofs.write_breaks.Tie as tie
 
 abbrev Inv-loop : tie.InvT-loop
-Inv-loop word work buffer₀ n count next₀ end₀ begun₀ k₀ buffer next end begun k = Writing word work buffer₀ buffer count next end begun k
+Inv-loop word work buffer₀ n all next₀ end₀ begun₀ at₀ k₀ buffer next end begun at k = Writing word work buffer₀ buffer all next end begun at k
 
 abbrev μ-loop : tie.MeasureT-loop
-μ-loop word work buffer₀ n count next₀ end₀ begun₀ k₀ buffer next end begun k = count - k
+μ-loop word work buffer₀ n all next₀ end₀ begun₀ at₀ k₀ buffer next end begun at k = length word - k
 
 -- the note and the end lie in the work buffer, and all numbers are small
-inside-at : (c : tie.In-loop Inv-loop μ-loop) → (let turn = c .before in let start = turn .before .before .before .before .before in
+inside-at : (c : tie.In-loop Inv-loop μ-loop) → (let turn = c .before in let start = turn .before .before .before .before .before .before in
     (length (start .args .word .now) + 2 * turn .loop .k + 1 < length (start .args .work .now)) × (turn .loop .next < mostLetters)
-    × (turn .loop .k < mostLetters) × (length (start .args .word .now) ≤ mostLetters))
+    × (turn .loop .k < length (start .args .word .now)) × (length (start .args .word .now) ≤ mostLetters))
 inside-at c =
     let turn = c .before in
-    let start = turn .before .before .before .before .before in
-    let fewer = few _ _ _ _ (start .pre) in (
-      omega (arith, fewer, c .loop-test .taken, start .pre .room .entries),
-      omega (arith, turn .loop .inv .inside, start .pre .room .short),
-      omega (arith, fewer, c .loop-test .taken, start .pre .room .short),
-      start .pre .room .short,
-    )
+    let start = turn .before .before .before .before .before .before in
+    let note = note-inside _ _ _ _ (start .pre) _ _ _ _ _ _ (turn .loop .inv) (c .loop-test .taken) in
+    (note .0, omega (arith, turn .loop .inv .inside, start .pre .room .short), note .1, start .pre .room .short)
+
+mul-all : tie.Need-mul-all Inv-loop μ-loop
+mul-all c = let start = c .before .before .before .before in omega (arith, start .pre .entries, start .good)
 
 mul-end : tie.Need-mul-end Inv-loop μ-loop
-mul-end c = let start = c .before .before .before in omega (arith, start .pre .inside, start .pre .room .short)
+mul-end c = let start = c .before .before .before .before in omega (arith, start .pre .inside, start .pre .room .short)
 
 shared-slice-read-end : tie.Need-shared-slice-read-end Inv-loop μ-loop
-shared-slice-read-end c = let start = c .before .before .before .before in omega (arith, start .pre .inside, start .pre .room .entries)
+shared-slice-read-end c = let start = c .before .before .before .before .before in omega (arith, start .pre .inside, start .pre .room .entries)
 
 loop-holds : tie.Need-loop-holds Inv-loop μ-loop
-loop-holds c = write-starts _ _ _ _ (c .before .before .before .before .pre)
+loop-holds c = write-starts _ _ _ _ (c .before .before .before .before .before .pre)
 
 mul-place : tie.Need-mul-place Inv-loop μ-loop
 mul-place c = omega (arith, inside-at c)
@@ -64,56 +63,51 @@ mul-border-2 c = omega (arith, inside-at (c .before))
 shared-slice-read-border : tie.Need-shared-slice-read-border Inv-loop μ-loop
 shared-slice-read-border c = omega (arith, inside-at (c .before .before))
 
-break-of-requires : tie.Need-break-of-requires Inv-loop μ-loop
-break-of-requires c κs =
-    let turn = c .before .before .before in
-    near-at _ _ _ _ (turn .before .before .before .before .before .pre) _ _ _ _ _ (turn .loop .inv) (c .before .before .loop-test .taken)
-
-mul-write-break : tie.Need-mul-write-break Inv-loop μ-loop
-mul-write-break c = omega (arith, inside-at (c .before .before .before .before))
-
-write-break-requires : tie.Need-write-break-requires Inv-loop μ-loop
-write-break-requires c κs =
-    let turn = c .before .before .before .before .before in
-    room-at _ _ _ _ (turn .before .before .before .before .before .pre) _ _ _ _ _ (turn .loop .inv) (c .before .before .before .before .loop-test .taken)
+write-if-break-requires : tie.Need-write-if-break-requires Inv-loop μ-loop
+write-if-break-requires c κs =
+    let at-turn = c .before .before .before in
+    let turn = at-turn .before in
+    let start = turn .before .before .before .before .before .before in (
+      near-at _ _ _ _ (start .pre) _ _ _ _ _ _ (turn .loop .inv) (at-turn .loop-test .taken),
+      room-at _ _ _ _ (start .pre) _ _ _ _ _ _ (turn .loop .inv) (at-turn .loop-test .taken),
+    )
 
 add-next : tie.Need-add-next Inv-loop μ-loop
-add-next c = omega (arith, inside-at (c .before .before .before .before .before .before .before .before))
+add-next c = omega (arith, inside-at (c .before .before .before .before .before .before .before))
 
 mul-end-2 : tie.Need-mul-end-2 Inv-loop μ-loop
-mul-end-2 c = omega (arith, inside-at (c .before .before .before .before .before .before .before .before))
+mul-end-2 c = omega (arith, inside-at (c .before .before .before .before .before .before .before))
 
 shared-slice-read-end-2 : tie.Need-shared-slice-read-end-2 Inv-loop μ-loop
 shared-slice-read-end-2 c =
-    let at-turn = c .before .before .before .before .before .before .before .before .before in
+    let at-turn = c .before .before .before .before .before .before .before .before in
     let turn = at-turn .before in
-    let start = turn .before .before .before .before .before in
-    omega (arith, next-inside _ _ _ _ (start .pre) _ _ _ _ _ (turn .loop .inv) (at-turn .loop-test .taken) (c .before .if1 .taken), start .pre .room .entries)
+    let start = turn .before .before .before .before .before .before in
+    omega (arith, next-inside _ _ _ _ (start .pre) _ _ _ _ _ _ (turn .loop .inv) (at-turn .loop-test .taken) (c .before .if1 .taken), start .pre .room .entries)
 
 add-k : tie.Need-add-k Inv-loop μ-loop
-add-k c = omega (arith, inside-at (c .before .before .before .before .before .before .before .before))
+add-k c = omega (arith, inside-at (c .before .before .before .before .before .before .before))
 
 loop-less : tie.Need-loop-less Inv-loop μ-loop
-loop-less c = omega (arith, c .before .before .before .before .before .before .before .before .loop-test .taken)
+loop-less c = omega (arith, inside-at (c .before .before .before .before .before .before .before))
 
 loop-again : tie.Need-loop-again Inv-loop μ-loop
 loop-again c =
     let wrote = c .before .before .before in
-    let made = wrote .before .before in
-    let at-turn = made .before .before .before in
+    let at-turn = wrote .before .before .before .before in
     let turn = at-turn .before in
-    write-on _ _ _ _ (turn .before .before .before .before .before .pre) _ _ _ _ _ (turn .loop .inv) (at-turn .loop-test .taken) _ _ (made .break-of .ensures)
-    (wrote .write-break .ensures) _ _ (⊎-map (λ x. (x .0 .taken, x .2, x .3)) (λ x. (x .0 .left, x .1, x .2)) (c .if1 .came))
+    write-on _ _ _ _ (turn .before .before .before .before .before .before .pre) _ _ _ _ _ _ (turn .loop .inv) (at-turn .loop-test .taken) _ _
+    (wrote .write-if-break .ensures) _ _ (⊎-map (λ x. (x .0 .taken, x .2, x .3)) (λ x. (x .0 .left, x .1, x .2)) (c .if1 .came))
 
 same-length : tie.Need-same-length Inv-loop μ-loop
 same-length c = c .before .loop .inv .long
 
 returns : tie.Need-returns Inv-loop μ-loop
-returns c = write-ends _ _ _ _ (c .before .before .before .before .before .before .pre) _ _ _ _ _ (c .before .loop .inv) (c .loop-test .left)
+returns c = write-ends _ _ _ _ (c .before .before .before .before .before .before .before .pre) _ _ _ _ _ _ (c .before .loop .inv) (c .loop-test .left)
 
 pub write-breaks-spec : {M : Type 1} → statement M
 write-breaks-spec =
     tie.close
-    (tie.spec Inv-loop μ-loop mul-end shared-slice-read-end loop-holds mul-place add-place mul-place-2 shared-slice-read-place
-    mul-border add-border add-border-2 mul-border-2 shared-slice-read-border break-of-requires mul-write-break
-    write-break-requires add-next mul-end-2 shared-slice-read-end-2 add-k loop-less loop-again same-length returns)
+    (tie.spec Inv-loop μ-loop mul-all mul-end shared-slice-read-end loop-holds mul-place add-place mul-place-2 shared-slice-read-place
+    mul-border add-border add-border-2 mul-border-2 shared-slice-read-border
+    write-if-break-requires add-next mul-end-2 shared-slice-read-end-2 add-k loop-less loop-again same-length returns)

@@ -9,7 +9,7 @@ use lib.ListN.{length, take, drop, getD, length-append, length-drop}
 use lib.Seq.{length-take-le, drop-drop, getD-drop}
 use Rattle.words.specs.Words.{InverseLyndon}
 use Rattle.words.specs.Factorizations.{icfl, joinFirst, fateOf, firstBreak, breaksFrom, failingLength, prefixLength, borderLength, endsFrom}
-use Rattle.words.specs.Statements.{placeIfKept, keptPlaces, DominatedBy, Linked, more}
+use Rattle.words.specs.Statements.{placeIfKept, keptPlaces, Linked, none, more}
 use Rattle.words.specs.declared.Fate.{Fate}
 use Rattle.words.specs.declared.Fate.the-variants.{Kept, Joined}
 use Rattle.words.specs.declared.Break.{Break}
@@ -29,7 +29,7 @@ pub data Ended (place border a b : ℕ) (es es′ : List ℕ) : Fate → Type 0 
   kept : place + border < getD es′ 0 0 → es ≡ place ∷ es′ → Ended place border a b es es′ (Kept a b)
   joined : {s : ℕ} → place < getD es′ 0 0 → s + getD es′ 0 0 ≡ place + border → es ≡ es′ → Ended place border a b es es′ (Joined s)
 
-join-ended : (i : ℕ) (p : List ℕ) (r a b : ℕ) (m : List ℕ) (ms : List (List ℕ)) → 0 < length m
+pub join-ended : (i : ℕ) (p : List ℕ) (r a b : ℕ) (m : List ℕ) (ms : List (List ℕ)) → 0 < length m
     → Ended (i + length p) r a b (endsFrom i (joinFirst p r (m ∷ ms))) (endsFrom (i + length p) (m ∷ ms)) (fateOf a b r (m ∷ ms))
 unfolding joinFirst endsFrom fateOf
 join-ended i p r a b m ms l = go (leb-test (length m) r)
@@ -44,19 +44,20 @@ join-ended i p r a b m ms l = go (leb-test (length m) r)
     go (fails h) = kept (omega arith) refl
 
 -- the first factor of a nonempty word
-pub record First (w : List ℕ) : Type 0 where
+pub record First (ms : List (List ℕ)) : Type 0 where
   pub factor : List ℕ
   pub others : List (List ℕ)
-  pub is : icfl w ≡ factor ∷ others
+  pub is : ms ≡ factor ∷ others
   pub some : 0 < length factor
 
-pub first-factor : (w : List ℕ) → 0 < length w → First w
+pub first-of : {P : List ℕ → Type 0} {R : List ℕ → List ℕ → Type 0} → ((m : List ℕ) → P m → 0 < length m)
+    → {ms : List (List ℕ)} → Linked P R ms → 0 < length (flatten ms) → First ms
 unfolding flatten
-first-factor w l = go (icfl w) refl (icfl-concat w) (icfl-dominated w)
-  where
-    go : (ms : List (List ℕ)) → icfl w ≡ ms → flatten ms ≡ w → Linked InverseLyndon DominatedBy ms → First w
-    go [] e f d = absurd (let z : 0 ≡ length w = ap length f in omega arith)
-    go (m ∷ ms) e f (more k x y) = record { factor = m; others = ms; is = e; some = k .nonempty }
+first-of nonempty none l = absurd (omega (arith, l))
+first-of nonempty (more {m = m} {ms = ms} p x y) l = record { factor = m; others = ms; is = refl; some = nonempty m p }
+
+pub first-factor : (w : List ℕ) → 0 < length w → First (icfl w)
+first-factor w l = first-of {P = InverseLyndon} (λ m p. p .nonempty) (icfl-dominated w) (rw (icfl-concat w) l)
 
 module _ (i : ℕ) (w : List ℕ) (l : 0 < length w) (n : ¬ InverseLyndon w) where
   abbrev p : ℕ
@@ -68,7 +69,7 @@ module _ (i : ℕ) (w : List ℕ) (l : 0 < length w) (n : ¬ InverseLyndon w) wh
   pub step-ended : Ended (i + p) (borderLength w) (getD w (borderLength w) 0) (getD w (p + borderLength w) 0)
       (endsFrom i (icfl w)) (endsFrom (i + p) (icfl (drop p w))) (firstFate w)
   step-ended =
-      let f : First (drop p w) = first-factor (drop p w) (rw length-drop (omega (arith, prefix-inside w step-of))) in
+      let f : First (icfl (drop p w)) = first-factor (drop p w) (rw length-drop (omega (arith, prefix-inside w step-of))) in
       let size : length (take p w) ≡ p = length-take-le p w (omega (arith, prefix-inside w step-of)) in
       let e = join-ended i (take p w) (borderLength w) (getD w (borderLength w) 0) (getD w (p + borderLength w) 0) (f .factor) (f .others) (f .some) in
       rw (icfl-step w l n, f .is) (rw size at e)
@@ -147,11 +148,11 @@ breaks-steps w i l = steps-within (length w) w i (omega arith) l
 abbrev pub keptEnds : List ℕ → List Break → List ℕ
 keptEnds w bs = keptPlaces bs ++ length w ∷ []
 
-ended-places : {place border a b : ℕ} {es es′ : List ℕ} {f : Fate} → Ended place border a b es es′ f → es ≡ placeIfKept f place es′
+pub ended-places : {place border a b : ℕ} {es es′ : List ℕ} {f : Fate} → Ended place border a b es es′ f → es ≡ placeIfKept f place es′
 ended-places (kept h e) = e
 ended-places (joined h x e) = e
 
-place-append : (f : Fate) (place : ℕ) (es ds : List ℕ) → placeIfKept f place (es ++ ds) ≡ placeIfKept f place es ++ ds
+pub place-append : (f : Fate) (place : ℕ) (es ds : List ℕ) → placeIfKept f place (es ++ ds) ≡ placeIfKept f place es ++ ds
 place-append (Kept a b) place es ds = refl
 place-append (Joined s) place es ds = refl
 
@@ -165,33 +166,3 @@ steps-ends {w} {i} (step {bs = bs} l n s) =
     ended-places (step-ended i (drop i w) (some-left w i l) n)
     ∙ (ap (placeIfKept (firstFate (drop i w)) (i + p)) (rw (drop-drop p i w) (steps-ends s))
     ∙ place-append (firstFate (drop i w)) (i + p) (keptPlaces bs) (length w ∷ []))
-
--- ---- the first of the breaks bs, in places of w
-
-pub record FirstOf (w : List ℕ) (i : ℕ) (b : Break) (bs : List Break) : Type 0 where
-  pub starts : b .begun ≡ i
-  pub forward : i < b .place
-  pub inside : b .place + b .border < length w
-  pub ended : Ended (b .place) (b .border) (getD w (i + b .border) 0) (getD w (b .place + b .border) 0) (keptEnds w (b ∷ bs)) (keptEnds w bs) (b .fate)
-  pub rest : Steps w (b .place) bs
-
-pub steps-first : {w : List ℕ} {i : ℕ} {b : Break} {bs : List Break} → Steps w i (b ∷ bs) → FirstOf w i b bs
-steps-first {w} {i} (step l n s) = record {
-  starts = refl;
-  forward = omega (arith, step-positive w i l n);
-  inside = step-inside w i l n;
-  ended = ended-same refl refl refl refl (steps-ends (step l n s)) (steps-ends s) refl (ended-in w i _ _ l n refl refl);
-  rest = s;
-}
-
--- break k, with those after it
-pub record BreakAt (w : List ℕ) (bs : List Break) (k : ℕ) : Type 0 where
-  pub begun : ℕ
-  pub break : Break
-  pub is : drop k bs ≡ break ∷ drop (suc k) bs
-  pub first : FirstOf w begun break (drop (suc k) bs)
-
-pub break-at : {w : List ℕ} {i : ℕ} {bs : List Break} → Steps w i bs → (k : ℕ) → k < length bs → BreakAt w bs k
-break-at (whole l h) k m = absurd (omega arith)
-break-at {w} {i} (step {bs = bs} l n s) zero m = record { begun = i; break = firstBreak i (drop i w); is = refl; first = steps-first (step l n s) }
-break-at (step l n s) (suc k) m = let b = break-at s k (omega arith) in record { begun = b .begun; break = b .break; is = b .is; first = b .first }

@@ -154,7 +154,7 @@ module _ (w : List ℕ) (b : Break) (k : StepOf w 0 b) where
   unfolding endsFrom icflEnds
   joined-told s e = go ended e
     where
-      first : First (drop (b .place) w)
+      first : First (icfl (drop (b .place) w))
       first = first-factor (drop (b .place) w) (rw length-drop (omega (arith, place-is, step-inside w (b .begun) (k .inside) (k .fails))))
 
       ends : endsAfter w (b .place) ≡ (b .place + length (first .factor)) ∷ endsFrom (b .place + length (first .factor)) (first .others)

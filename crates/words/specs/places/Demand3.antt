@@ -30,7 +30,7 @@ use Rattle.words.specs.cfl_in.CflInIs.{cfl-in-is}
 use Rattle.words.specs.cfl_in.CflInFirst.{cfl-in-boundary-first, first-cfl-in-boundary}
 
 module _ (w : List ℕ) where
-  icfl-first : (e : ℕ) → Boundary e (icfl w) → FirstSuffix e w
+  pub icfl-first : (e : ℕ) → Boundary e (icfl w) → FirstSuffix e w
   icfl-first e b = rw (icfl-concat w) at (boundary-first (dominated-led (icfl-dominated w)) b)
 
   pub icfl-inside : (e : ℕ) → Boundary e (icfl w) → e ≤ length w

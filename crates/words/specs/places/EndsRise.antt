@@ -59,7 +59,7 @@ rises-last (more h (more {es = es} k r)) l =
 
 -- ---- the factorizations
 
-ends-rise : {P : List ℕ → Type 0} {R : List ℕ → List ℕ → Type 0} → ((m : List ℕ) → P m → 0 < length m)
+pub ends-rise : {P : List ℕ → Type 0} {R : List ℕ → List ℕ → Type 0} → ((m : List ℕ) → P m → 0 < length m)
     → {ms : List (List ℕ)} → Linked P R ms → (b n : ℕ) → b + length (flatten ms) ≡ n → Rises n b (endsFrom b ms)
 unfolding endsFrom flatten
 ends-rise nonempty Linked.none b n z = done {b = b} (omega arith)

@@ -10,7 +10,7 @@ use lib.Seq.{slice, drop-at, take-at}
 use Rattle.words.specs.Factorizations.{endsFrom}
 use Rattle.words.specs.Statements.{Adjacent, Next, by, Linked}
 use Rattle.words.specs.places.Ends.{adjacent-cases, adjacent-one}
-use Rattle.words.specs.places.EndsRise.{Rises, done, more, rises-head, rises-tail}
+use Rattle.words.specs.places.EndsRise.{Rises, done, more, rises-most, rises-head, rises-tail}
 
 pub rises-above : {n b e : ℕ} {es : List ℕ} → Rises n b es → List·Memᴰ e es → b < e
 rises-above (done z) x = absurd (List·Memᴰ·not-nil x)
@@ -19,6 +19,14 @@ rises-above {e = e} (more {b = b} {e = f} {es = es} h r) x = go (List·Memᴰ·c
     go : (e ≡ f) ⊎ List·Memᴰ e es → (List·Memᴰ e es → f < e) → b < e
     go (inl z) next = omega arith
     go (inr y) next = omega (arith, next y)
+
+pub rises-below : {n b e : ℕ} {es : List ℕ} → Rises n b es → List·Memᴰ e es → e ≤ n
+rises-below (done z) x = absurd (List·Memᴰ·not-nil x)
+rises-below {n} {e = e} (more {e = f} {es = es} h r) x = go (List·Memᴰ·cases-cons x) (λ y. rises-below r y)
+  where
+    go : (e ≡ f) ⊎ List·Memᴰ e es → (List·Memᴰ e es → e ≤ n) → e ≤ n
+    go (inl z) next = omega (arith, rises-most r)
+    go (inr y) next = next y
 
 pub rises-adjacent : {n b i j : ℕ} {es : List ℕ} → Rises n b es → Adjacent i j (b ∷ es) → (b ≤ i) × (i < j)
 rises-adjacent (done z) x = absurd (adjacent-one x)

@@ -36,16 +36,14 @@ module _ (w : List ℕ) (first end : ℕ) (l : first ≤ end) (h : end ≤ lengt
 whole-remainder : (w : List ℕ) (start : ℕ) → remainder w 0 (length w) start ≡ drop start w
 whole-remainder w start = let z : start - 0 ≡ start = omega arith in rw (z, take-length w)
 
-pub compatible : (w : List ℕ) (first end start other : ℕ) → FirstSuffix end w → end ≤ length w
+-- a range that what follows it leads
+pub compatible-led : (w : List ℕ) (first end start other : ℕ) → Leads (slice first end w) (drop end w) → end ≤ length w
     → first ≤ start → start < end → first ≤ other → other < end → ¬ (start ≡ other)
     → sign w first end start other ≡ sign w 0 (length w) start other
-compatible w first end start other f h a b c d n = sign-same-order w first end 0 (length w) start other
+compatible-led w first end start other leads h a b c d n = sign-same-order w first end 0 (length w) start other
     (λ k. rw (whole start a b, whole other c d) (≼-≺ (range-before leads (start - first) (other - first) (≺-≼ k)) differ))
     (λ k. ≼-≺ (before-range leads (start - first) (other - first) (≺-≼ (rw (whole start a b, whole other c d) at k))) differ-within)
   where
-    leads : Leads (slice first end w) (drop end w)
-    leads = range-leads w first end (omega arith) h f
-
     suffix : (s : ℕ) → first ≤ s → s < end → drop s w ≡ remainder w first end s ++ drop end w
     suffix s x y = range-suffix w first end (omega arith) h s x (omega arith)
 
@@ -57,3 +55,9 @@ compatible w first end start other f h a b c d n = sign-same-order w first end 0
 
     differ-within : ¬ (length (remainder w first end start) ≡ length (remainder w first end other))
     differ-within z = n (omega (arith, simp (length-drop, length-take-le end w h) at z))
+
+pub compatible : (w : List ℕ) (first end start other : ℕ) → FirstSuffix end w → end ≤ length w
+    → first ≤ start → start < end → first ≤ other → other < end → ¬ (start ≡ other)
+    → sign w first end start other ≡ sign w 0 (length w) start other
+compatible w first end start other f h a b c d n =
+    compatible-led w first end start other (range-leads w first end (omega arith) h f) h a b c d n

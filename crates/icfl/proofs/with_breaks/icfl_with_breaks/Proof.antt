@@ -9,7 +9,7 @@ use Rattle.checks.specs.Lines.{tried}
 use Rattle.checks.specs.declared.Checked.the-variants.{Passed}
 use Rattle.checks.proofs.LineLaws.{both, passed}
 use Rattle.breaks.specs.Cutting.{CutRoom}
-use Rattle.breaks.proofs.NoteLaws.{few-noted}
+use Rattle.breaks.proofs.NoteLaws.{breaks-fewer}
 use Rattle.icfl.specs.Icfl.{icflAdmission}
 use Rattle.icfl.proofs.IcflCases.{cut-room}
 use Rattle.icfl.proofs.BreaksCases.{roomLines, rooms, breaks-unadmitted, breaks-refused, breaks-written}
@@ -78,7 +78,7 @@ check-result-requires c κs = search needs
 mul-check-result : tie.Need-mul-check-result
 mul-check-result c =
     let at-found = c .before .before .before in
-    omega (arith, few-noted _ _ _ (room-at (at-found .before .before) .nonempty) (at-found .find-ends .ensures .noted), inside-at at-found)
+    omega (arith, breaks-fewer (at-found .find-ends .ensures), inside-at at-found)
 
 check-result-requires-2 : tie.Need-check-result-requires-2
 check-result-requires-2 c κs = search needs
@@ -136,7 +136,9 @@ write-breaks-requires c κs =
       room = record { nonempty = room .nonempty; short = room .short; entries = inside-at at-found .0 };
       inside = found .inside;
       ends = found .ends;
+      count = found .count;
       noted = found .noted;
+      breaks = found .breaks;
       entries = fits-at (c .before .before .before .before .before .before .before .before) .1;
     }
 

@@ -13,7 +13,7 @@ abbrev μ-loop : tie.MeasureT-loop
 μ-loop word lengths₀ i₀ n₀ lengths i n = i
 
 loop-holds : tie.Need-loop-holds Inv-loop μ-loop
-loop-holds c = fill-begins (c .before .before .pre)
+loop-holds c = fill-begins (c .before .before .pre) (λ k. omega (arith, c .before .shared-slice-known .given k .fits))
 
 sub-i : tie.Need-sub-i Inv-loop μ-loop
 sub-i c = search needs

@@ -1,9 +1,11 @@
 -- The word from i to j is anti-Lyndon; the longest word at j joins it if it comes after it, and else nothing longer begins at i.
 use borrow.Author.Needs.{needs}
-use Prim.Native.Nat.{_-_}
+use Prim.Native.Nat.{_-_, _<_}
 use native.Mathlib.Omega.{arith}
 use lib.ListN.{length, getD}
 use borrow.Author.Tests.{not-true, not-false}
+use Rattle.words.specs.Separated.{separator}
+use Rattle.words.specs.orders.Decisions.{decides-true, decides-false}
 use Rattle.words.specs.table.Merging.{Merged}
 use Rattle.table.proofs.MergeLaws.{Merging, turn-begins, turn-fits, turn-joins, turn-stops, turns-end}
 use Rattle.table.proofs.merging.longest_from.Statement.{statement}
@@ -20,7 +22,11 @@ merging-at : (c : tie.In-loop Inv-loop μ-loop) → let a = c .before .before .b
     Merging (a .word .now) (a .i) j (getD (a .lengths .now) j 0)
 merging-at c =
     let inv = c .before .loop .inv in
-    record { merged = inv; entry = c .before .before .before .before .pre .after .entries _ (inv .after) (c .loop-test .taken) }
+    let asked = c .before .before .before .before .pre in
+    record { letters = asked .after .letters; merged = inv; entry = asked .after .entries _ (inv .after) (c .loop-test .taken) }
+
+below-at : (c : tie.In-loop Inv-loop μ-loop) → let a = c .before .before .before .before .args in getD (a .word .now) (a .i) 0 < separator
+below-at c = c .before .before .before .before .pre .below
 
 loop-holds : tie.Need-loop-holds Inv-loop μ-loop
 loop-holds c = c .before .before .pre .merged
@@ -65,7 +71,9 @@ sub-result : tie.Need-sub-result Inv-loop μ-loop
 sub-result c = search needs
 
 returns : tie.Need-returns Inv-loop μ-loop
-returns c = turn-stops (merging-at (c .before .before .before .before .before)) (c .before .comes-before .ensures) (not-true _ (c .if1 .taken))
+returns c =
+    let turn = c .before .before .before .before .before in
+    turn-stops (merging-at turn) (below-at turn) (decides-false (c .before .comes-before .ensures) (not-true _ (c .if1 .taken)))
 
 add-j : tie.Need-add-j Inv-loop μ-loop
 add-j c = omega (arith, turn-fits (merging-at (c .before .before .before .before .before)))
@@ -76,13 +84,15 @@ loop-less c =
     omega (arith, turn-begins (merging-at turn) (turn .loop-test .taken))
 
 loop-again : tie.Need-loop-again Inv-loop μ-loop
-loop-again c = turn-joins (merging-at (c .before .before .before .before .before)) (c .before .comes-before .ensures) (not-false _ (c .if1 .left))
+loop-again c =
+    let turn = c .before .before .before .before .before in
+    turn-joins (merging-at turn) (below-at turn) (decides-true (c .before .comes-before .ensures) (not-false _ (c .if1 .left)))
 
 sub-result-2 : tie.Need-sub-result-2 Inv-loop μ-loop
 sub-result-2 c = search needs
 
 returns-2 : tie.Need-returns-2 Inv-loop μ-loop
-returns-2 c = turns-end (c .before .loop .inv) (c .loop-test .left)
+returns-2 c = turns-end (c .before .before .before .before .pre .below) (c .before .loop .inv) (c .loop-test .left)
 
 pub longest-from-spec : {M : Type 1} → statement M
 longest-from-spec =

@@ -1,0 +1,89 @@
+-- THEOREMS about calls that are careless of marks (request 103): the demand that shuts each of them out. Each is the library but for one call. And over-marks:
+-- demand 3's first sentence would be false of whole pieces that hold marks.
+use mathlib.Core.Path.{_≡_, refl, ap, sym, _∙_}
+use mathlib.Core.List.{List, [], _∷_, _++_, List·Memᴰ·head, List·Memᴰ·tail}
+use Prim.Native.Nat.{ℕ}
+use native.Mathlib.Omega.{arith}
+use lib.ListN.{length, getD, replicate}
+use lib.IntN.{pos, negsuc}
+use Rattle.words.specs.Words.{isInverseLyndon, sign}
+use Rattle.words.specs.Factorizations.{icflEnds}
+use Rattle.words.specs.Statements.{WholePieces, Compatible}
+use Rattle.words.specs.Separated.{separatedIcflEnds, isMarked}
+use Rattle.words.specs.Examples.{a}
+use Rattle.checks.specs.Lines.{Line, tried, _unless_then_, recordLines, workLine, markLine}
+use Rattle.checks.specs.declared.Checked.the-variants.{Refused}
+use Rattle.checks.specs.declared.Counted.{Counted}
+use Rattle.checks.proofs.LineLaws.{not-both}
+use Rattle.extension.specs.declared.Extension.{Extension}
+use Rattle.extension.specs.Extension.{extensionOf}
+use Rattle.icfl.specs.Icfl.{icflAdmission}
+use Rattle.compare.specs.declared.suffixes.Comparison.{Comparison}
+use Rattle.demands.specs.Demands.{Calls, library, Demand1, Demand2}
+use Rattle.demands.specs.Meets.{Meets}
+use Rattle.demands.specs.Careless.{cutter, CutsAt, other-ends, Answering, aboveZero}
+
+abbrev m : ℕ
+m = 255
+
+-- ---- cuts
+
+-- 255 as the hottest level, as paper 01 had it: `ff 61` is one falling piece then
+pub level-for-mark : ¬ Demand2 (cutter (CutsAt icflEnds)) (m ∷ a ∷ [])
+unfolding icflEnds separatedIcflEnds
+level-for-mark = other-ends icflEnds (m ∷ a ∷ []) (omega arith) (omega arith)
+    (λ e. let z : _≡_ {A = ℕ} 2 1 = ap (λ (t : List ℕ). getD t 0 0) e in omega arith)
+
+-- two neighbouring marks as one piece
+pub marks-as-one : (f : List ℕ → List ℕ) → f (m ∷ m ∷ a ∷ []) ≡ 2 ∷ 3 ∷ [] → ¬ Demand2 (cutter (CutsAt f)) (m ∷ m ∷ a ∷ [])
+unfolding separatedIcflEnds
+marks-as-one f x = other-ends f (m ∷ m ∷ a ∷ []) (omega arith) (omega arith)
+    (λ e. let z : _≡_ {A = ℕ} 2 1 = ap (λ (t : List ℕ). getD t 0 0) (sym x ∙ e) in omega arith)
+
+-- the test's refusal passed up: 9 for a record that holds a mark
+pub cut-refused-by-9 : ¬ Demand1 (cutter (Answering
+    (λ w work entries. Counted.Count (length (separatedIcflEnds w)) unless icflAdmission w work ++ markLine w ∷ [] then Counted.Refused)
+    (λ w ends. ends)))
+unfolding tried separatedIcflEnds isMarked
+cut-refused-by-9 d = not-both refl (d .pieceCut (m ∷ []) (replicate 3 0) (0 ∷ []) _ _ (Counted.Refused 9) (refl, refl, refl) .0 .first)
+
+-- ---- tests, by the lines that they try
+
+abbrev tester : (List ℕ → ℕ → List Line) → Calls
+tester lines = record {
+  Test = λ w work r work′. (r ≡ extensionOf w unless lines w (length work) then Extension.Refused) × (work′ ≡ work);
+  PieceCut = library .PieceCut;
+  ReasonedCut = library .ReasonedCut;
+  StrictCut = library .StrictCut;
+  StartTable = library .StartTable;
+  Comparing = library .Comparing;
+  Reading = library .Reading;
+  Summing = library .Summing;
+}
+
+-- one that answers for a record with a mark
+pub test-without-9 : ¬ Demand1 (tester (λ w entries. recordLines w ++ workLine entries (length w) ∷ []))
+unfolding tried extensionOf isInverseLyndon isMarked
+test-without-9 d = not-both refl (sym (d .test (m ∷ []) (0 ∷ []) (0 ∷ []) Extension.InverseLyndon (refl, refl) .0 .first))
+
+-- one that looks for marks before it looks at its work buffer: 9 where 3 is due
+pub nine-before-three : ¬ Demand1 (tester (λ w entries. recordLines w ++ markLine w ∷ workLine entries (length w) ∷ []))
+unfolding tried isMarked
+nine-before-three d =
+    let e : Refused 9 ≡ Refused 3 = d .test (m ∷ []) [] [] (Extension.Refused 9) (refl, refl) .0 .first in
+    let z : _≡_ {A = ℕ} 9 3 = cc in
+    omega arith
+
+-- ---- "The promise about two starting minutes covers stretches without marks": over the two marks of `ff ff 61` it fails
+
+pub over-marks : (calls : Calls) → Meets calls → (compare : ℕ → ℕ → ℕ → ℕ → Comparison)
+    → ((first end start other : ℕ) → calls .Comparing (m ∷ m ∷ a ∷ []) first end start other (compare first end start other))
+    → ¬ Compatible (WholePieces (separatedIcflEnds (m ∷ m ∷ a ∷ []))) 3 compare
+unfolding tried sign separatedIcflEnds
+over-marks calls meets compare h same =
+    let over-2 : compare 0 2 0 1 ≡ Comparison.Sign (pos 1) = meets .comparison _ 0 2 0 1 _ (h 0 2 0 1) .answer in
+    let over-3 : compare 0 3 0 1 ≡ Comparison.Sign (negsuc 0) = meets .comparison _ 0 3 0 1 _ (h 0 3 0 1) .answer in
+    let e : compare 0 2 0 1 ≡ compare 0 3 0 1 = same 0 2 0 1 (List·Memᴰ·head refl, List·Memᴰ·tail (List·Memᴰ·head refl))
+    (omega arith) (omega arith) (omega arith) (omega arith) (λ z. omega arith) in
+    let z : _≡_ {A = ℕ} 1 0 = ap aboveZero (sym over-2 ∙ (e ∙ over-3)) in
+    omega arith

@@ -1,0 +1,73 @@
+//! What request 103 says of records with marks, bytes 255, through every implementation.
+use metsroeb::{Break, Fate, Refusal};
+use metsroeb_tests::{reference, Calls, PEER, VERIFIED};
+use std::cmp::Ordering;
+
+const I: &[u8] = b"cbabacaacbabacbac";
+const BOTH: [&Calls; 2] = [&VERIFIED, &PEER];
+
+/// Their piece and strict ends, which are the same here, and their start tables.
+#[test]
+fn records_with_marks() {
+    for (word, ends, lengths) in [
+        (&b"\xff"[..], &[1][..], &[1][..]),
+        (b"\xff\xffa", &[1, 2, 3], &[1, 1, 1]),
+        (b"ba\xffba", &[2, 3, 5], &[2, 1, 1, 2, 1]),
+        (b"a\xffab\xff\xff", &[1, 2, 3, 4, 5, 6], &[1, 1, 1, 1, 1, 1]),
+        (b"ab\xff\xffcb", &[1, 2, 3, 4, 6], &[1, 1, 1, 1, 2, 1]),
+    ] {
+        let answers = (reference::icfl(word), reference::cfl_in(word), reference::lyndon_table(word));
+        assert_eq!(answers, (ends.to_vec(), ends.to_vec(), lengths.to_vec()));
+        for calls in BOTH {
+            let (mut work, mut result) = (vec![0; 3 * word.len()], vec![0; word.len()]);
+            assert_eq!((calls.icfl)(word, &mut work, &mut result), Ok(ends));
+            assert_eq!((calls.cfl_in)(word, &mut result), Ok(ends));
+            assert_eq!((calls.lyndon_table)(word, &mut result), Ok(lengths));
+        }
+    }
+}
+
+/// "Breaks are given by stretch, in the record's places; marks and the last pieces of stretches end without one."
+#[test]
+fn breaks_of_i_beside_a_mark() {
+    use Fate::{Joined, Kept};
+    let word = [I, b"\xff", I].concat();
+    let step = |from| {
+        let joined = Break { place: from + 8, begun: from, border: 6, fate: Joined(1) };
+        [joined, Break { place: from + 13, begun: from + 8, border: 3, fate: Kept(b'b', b'c') }]
+    };
+    let (ends, breaks) = ([13, 17, 18, 31, 35], [step(0), step(18)].concat());
+    assert_eq!(reference::icfl_with_breaks(&word), (ends.to_vec(), breaks.clone()));
+    for calls in BOTH {
+        let (mut work, mut lent_ends, mut lent) = ([7; 105], [7; 5], [7; 20]);
+        let (got, considered) = (calls.icfl_with_breaks)(&word, &mut work, &mut lent_ends, &mut lent).unwrap();
+        assert_eq!(got, ends);
+        assert_eq!(considered.collect::<Vec<_>>(), breaks);
+        assert_eq!(work, [0; 105]);
+    }
+}
+
+/// "9, a test of a record that holds a mark, after 3": a short work buffer is met first, and 9 leaves it as it was too.
+#[test]
+fn test_of_a_record_with_a_mark() {
+    for calls in BOTH {
+        for word in [b"ba\xffba", b"\xffabab", b"ababa", b"baba\xff"] {
+            let (marked, mut work) = (word.contains(&255), [7; 6]);
+            assert_eq!((calls.find_extension)(word, &mut work[..4]), Err(Refusal::SHORT_WORK));
+            assert_eq!(work, [7; 6]);
+            let refused = (calls.find_extension)(word, &mut work[..5]).err();
+            assert_eq!(refused, marked.then_some(Refusal::MARKED_RECORD));
+            assert_eq!(work, if marked { [7; 6] } else { [0, 0, 0, 0, 0, 7] });
+        }
+        assert_eq!(Refusal::MARKED_RECORD.number(), 9);
+    }
+}
+
+/// "The comparison treats 255 as before", as the largest letter.
+#[test]
+fn comparisons_over_marks() {
+    for calls in BOTH {
+        assert_eq!((calls.compare_suffixes)(b"\xff\xffa", 0, 2, 0, 1), Ok(Ordering::Greater));
+        assert_eq!((calls.compare_suffixes)(b"\xff\xffa", 0, 3, 0, 1), Ok(Ordering::Less));
+    }
+}
