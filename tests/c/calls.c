@@ -1,5 +1,5 @@
 /* Calls each function on record H and compares the answers with paper 01's; the cut with its breaks on record I, as request
- * 102 has it; the summary also where two parts are equally long. */
+ * 102 has it; the summary also where two parts are equally long; test, cuts and table on a record with a mark. */
 #include "metsroeb.h"
 
 #include <stdio.h>
@@ -30,10 +30,14 @@ int main(void)
 {
     static const uint8_t record[] = {'c', 'b', 'a', 'b', 'a', 'c', 'b', 'a', 'c'};
     static const uint8_t joined[] = "cbabacaacbabacbac";
+    static const uint8_t marked[] = {'b', 'a', 255, 'a', 'b'};
     static const uint16_t zeros[51];
     static const uint16_t pieces[] = {5, 9};
     static const uint16_t joined_ends[] = {13, 17};
     static const uint16_t joined_breaks[] = {8, 0, 6, 256, 1, 13, 8, 3, 'b', 'c'};
+    static const uint16_t marked_ends[] = {2, 3, 4, 5};
+    static const uint16_t marked_break[] = {4, 3, 0, 'a', 'b'};
+    static const uint16_t marked_table[] = {2, 1, 1, 1, 1};
     static const uint16_t strict[] = {5, 8, 9};
     static const uint16_t table[] = {5, 2, 1, 2, 1, 3, 2, 1, 1};
     static const uint16_t bands[13] = {0, 0, 2};
@@ -72,6 +76,25 @@ int main(void)
     expect("icfl_breaks, room for one", metsroeb_icfl_breaks(joined, 17, work, 51, ends, 2, breaks, 9, &count, &break_count), 4);
     expect("icfl_breaks, room for one: count", count, 0);
     expect("icfl_breaks, room for one: break_count", break_count, 0);
+
+    memset(work, 0x5a, sizeof work);
+    expect("test, a mark", metsroeb_test(marked, 5, work, 5, &failing, &prefix, &border), 9);
+    expect("test, a mark: failing", failing, 0);
+    expect("test, a mark: work[0]", work[0], 0x5a5a);
+    expect("test, a mark and too little work", metsroeb_test(marked, 5, work, 4, &failing, &prefix, &border), 3);
+    expect("icfl_breaks, a mark", metsroeb_icfl_breaks(marked, 5, work, 15, ends, 4, breaks, 5, &count, &break_count), 0);
+    expect("icfl_breaks, a mark: count", count, 4);
+    expect("icfl_breaks, a mark: break_count", break_count, 1);
+    expect_entries("icfl_breaks, a mark: ends", ends, marked_ends, 4);
+    expect_entries("icfl_breaks, a mark: breaks", breaks, marked_break, 5);
+    expect("icfl, a mark", metsroeb_icfl(marked, 5, work, 15, ends, 4, &count), 0);
+    expect("icfl, a mark: count", count, 4);
+    expect_entries("icfl, a mark: ends", ends, marked_ends, 4);
+    expect("cfl_in, a mark", metsroeb_cfl_in(marked, 5, ends, 4, &count), 0);
+    expect("cfl_in, a mark: count", count, 4);
+    expect_entries("cfl_in, a mark: ends", ends, marked_ends, 4);
+    expect("lyndon_table, a mark", metsroeb_lyndon_table(marked, 5, lengths, 5, &count), 0);
+    expect_entries("lyndon_table, a mark: lengths", lengths, marked_table, 5);
 
     expect("lyndon_table", metsroeb_lyndon_table(record, n, lengths, 9, &count), 0);
     expect("lyndon_table: count", count, 9);

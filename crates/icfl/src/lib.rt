@@ -1,4 +1,4 @@
-//! The canonical inverse Lyndon factorization (paper 01: the piece cut).
+//! The canonical inverse Lyndon factorization (paper 01: the piece cut), stretch by stretch (request 103).
 mod with_breaks; // icfl_with_breaks: the same with its breaks beside it
 
 use checks::Checked;
@@ -20,8 +20,8 @@ fn admit(word: &[u8], entries: usize) -> Checked
     checks::check_work(entries, 3 * word.len())
 }
 
-/// The piece cut: writes the ends of the factors from entry 0 on, and answers their number. Refusals 1, 2, 3, 4. After a result and after 4 the
-/// first entries of `work`, three for each letter, are zero.
+/// The piece cut: writes the ends of the factors from entry 0 on, and answers their number. Each separator is a factor, and each stretch between two is cut by
+/// itself. Refusals 1, 2, 3, 4. After a result and after 4 the first entries of `work`, three for each letter, are zero.
 pub fn icfl(word: &[u8], work: &mut [u16], ends: &mut [u16]) -> Counted
     ensures { λ r. ⌜ IcflDone (now (word .entry)) (now (work .entry)) (now (ends .entry)) r (now (work .exit)) (now (ends .exit)) ⌝ }
 {

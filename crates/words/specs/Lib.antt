@@ -1,4 +1,4 @@
--- The theory of a word's two factorizations. Definitions that a reader must believe stand in three files; all else is proved.
+-- The theory of a word's two factorizations. Definitions that a reader must believe stand in five files; all else is proved.
 --
 --   name                          paper 01                    source 004           meaning
 --   Words
@@ -26,6 +26,12 @@
 --     DominatedBy                                                                  every nonempty suffix of one is ≪ the other
 --     BelowByBorders              request 109                                      the same said by borders
 --     Demand3                     demand 3                    Corollary 7.2, 7.13  the demand's sentences, a field each
+--   Separated, SeparatedStatements (request 103)
+--     separator, mark             mark                                             byte 255, and the factor that it is
+--     stretches, between          stretches between marks                          the words around the separators; lists with something between
+--     separatedIcfl, separatedCflIn, separatedTable, separatedBreaks               icfl, cflIn, lyndonTable and the breaks of a record, by stretches
+--     SeparatedOf                                                                  a division into separators and words of a kind
+--     SeparatedDemand3            demand 3                                         of a record with separators
 --
 -- The laws stand in folders by subject; the file beside a folder says what is in it.
 --   orders       ⊑, ≪, <ₗ, ≺ and the sign; tests that decide
@@ -37,6 +43,7 @@
 --   places       lists of words by their ends; demand 3
 --   scan         what the loops of the cuts and of the test know
 --   table        the Lyndon table
+--   stretches    all this of records with separators
 pub mod Words
 pub mod Factorizations
 pub mod Statements

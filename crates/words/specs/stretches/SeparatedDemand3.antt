@@ -1,17 +1,17 @@
 -- THEOREM separated-demand-3. Demand 3 whole, for every word of letters up to the separator. Only its first sentence, the comparison to the word's end, needs that no
--- letter is above the separator (SeparatedLimits); the others are proved without it. That sentence rests on one fact: the suffix at an end of the
+-- letter is above the separator (SeparatedLimits); the others are had without it (pieces-exceed to pieces-nested). That sentence rests on one fact: the suffix at an end of the
 -- factorization comes no later than any earlier suffix that no separator divides from it (first-since).
 use mathlib.Core.Path.{_≡_, ap}
 use mathlib.Core.Logic.{_⊎_, inl, inr}
-use mathlib.Core.List.{List, [], _∷_, _++_, flatten}
+use mathlib.Core.List.{List, [], _∷_, _++_, flatten, List·Memᴰ}
 use Prim.Native.Nat.{ℕ, zero, suc, _+_, _-_, _≤_, _<_}
 use native.Mathlib.Omega.{arith}
 use native.Mathlib.Decide.{decLt}
 use lib.ListN.{length, take, drop, getD, drop-of-length-le, List·getD-append, List·getD-eq-default}
 use lib.Seq.{slice, drop-drop, drop-nil, drop-append-le, drop-append-add, length-slice}
-use Rattle.words.specs.Words.{here, _⊑_, InverseLyndon}
+use Rattle.words.specs.Words.{_≪_, here, _⊑_, _<ₗ_, InverseLyndon, sign}
 use Rattle.words.specs.Factorizations.{icfl, icflEnds, cflIn, cflInEnds, endsFrom}
-use Rattle.words.specs.Statements.{DominatedBy, Part}
+use Rattle.words.specs.Statements.{DominatedBy, Part, Compatible}
 use Rattle.words.specs.orders.InverseLaws.{_≼_, won, ≼-refl}
 use Rattle.words.specs.lyndon.Suffixes.{dominated-at}
 use Rattle.words.specs.icfl.IcflConcat.{icfl-concat}
@@ -23,7 +23,7 @@ use Rattle.words.specs.places.Parts.{rises-above, rises-adjacent, part-w
 use Rattle.words.specs.places.Ranges.{range-suffix, compatible-led}
 use Rattle.words.specs.places.Demand3.{icfl-first, icfl-inside, demand-3}
 use Rattle.words.specs.Separated.{separator, mark, Unmarked, UpToSeparator, separatedIcfl, separatedCflIn, separatedIcflEnds, separatedCflInEnds}
-use Rattle.words.specs.SeparatedStatements.{UnlessMark, SeparatedDemand3}
+use Rattle.words.specs.SeparatedStatements.{UnlessMark, UnmarkedPieces, SeparatedDemand3}
 use Rattle.words.specs.stretches.Unmarked.{unmarked-head, unmarked-tail, unmarked-drop}
 use Rattle.words.specs.stretches.Separation.{
   Separation,
@@ -192,6 +192,8 @@ nested-all (split {v = v} {w = w} u s) a b i j k x y z l h = go
         let same : g .0 ≡ f .1 = omega (arith, f .3, g .2) in
         ⊑-after v w i j k (f .0) (f .1) (g .1) (f .2) (f .3) (g .3) (next a′ b′ (f .0) (f .1) (g .1) x′ (f .4) (rw same at (g .4)) (omega (arith, f .2)) (omega (arith, g .3)))
 
+-- ---- the sentences that ask nothing of the letters
+
 module _ (w : List ℕ) where
   factor : (i j : ℕ) → Part (separatedIcflEnds w) i j → InverseLyndon (slice i j w)
   unfolding separatedIcflEnds
@@ -202,14 +204,33 @@ module _ (w : List ℕ) where
   neighbours i j k x y =
       rw (separated-icfl-concat w) at (parts-linked [] (separatedIcfl w) (separated-icfl-is w .words) (separated-icfl-ends-rise w) x y)
 
-  pub separated-demand-3 : UpToSeparator w → SeparatedDemand3 w
+  pub pieces-exceed : (i j : ℕ) → Part (separatedIcflEnds w) i j → (u s : List ℕ) → u ++ s ≡ slice i j w → 0 < length u → 0 < length s → s <ₗ slice i j w
+  pieces-exceed i j x = factor i j x .exceeds
+
+  pub pieces-lose : (i j k : ℕ) → Part (separatedIcflEnds w) i j → Part (separatedIcflEnds w) j k → UnlessMark _≪_ (slice i j w) (slice j k w)
+  pieces-lose i j k x y m n = dominated-at {m = slice i j w} {n = slice j k w} (neighbours i j k x y m n) 0 (factor i j x .nonempty)
+
+  pub pieces-strict : (e : ℕ) → List·Memᴰ e (separatedIcflEnds w) → List·Memᴰ e (separatedCflInEnds w)
   unfolding separatedIcflEnds separatedCflInEnds
+  pieces-strict e m = boundary-ends (rises-above (separated-icfl-ends-rise w) m) (boundary-strict (separation w) e (ends-boundary (separatedIcfl w) m))
+
+  pub pieces-nested : (a b i j k : ℕ) → Part (separatedIcflEnds w) a b → Part (separatedCflInEnds w) i j → Part (separatedCflInEnds w) j k → a ≤ i → k ≤ b
+      → slice j k w ⊑ slice i j w
+  pieces-nested = nested-all (separation w)
+
+  -- ---- and the first, which does
+
+  pieces-compatible : UpToSeparator w → Compatible (UnmarkedPieces w (separatedIcflEnds w)) (length w) (sign w)
+  unfolding separatedIcflEnds
+  pieces-compatible up first end start other m a b c d e =
+      let f : Boundary end (separatedIcfl w) = ends-boundary (separatedIcfl w) (m .0 .1) in
+      compatible-led w first end start other (unmarked-leads w up first end f (omega arith) (m .1)) (end-inside w end f) a b c d e
+
+  pub separated-demand-3 : UpToSeparator w → SeparatedDemand3 w
   separated-demand-3 up = record {
-    compatible = λ first end start other m a b c d e.
-        let f : Boundary end (separatedIcfl w) = ends-boundary (separatedIcfl w) (m .0 .1) in
-        compatible-led w first end start other (unmarked-leads w up first end f (omega arith) (m .1)) (end-inside w end f) a b c d e;
-    exceeds = λ i j x. factor i j x .exceeds;
-    loses = λ i j k x y m n. dominated-at {m = slice i j w} {n = slice j k w} (neighbours i j k x y m n) 0 (factor i j x .nonempty);
-    strict = λ e m. boundary-ends (rises-above (separated-icfl-ends-rise w) m) (boundary-strict (separation w) e (ends-boundary (separatedIcfl w) m));
-    nested = nested-all (separation w);
+    compatible = pieces-compatible up;
+    exceeds = pieces-exceed;
+    loses = pieces-lose;
+    strict = pieces-strict;
+    nested = pieces-nested;
   }
