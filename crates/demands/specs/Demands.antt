@@ -5,7 +5,7 @@ use mathlib.Core.Path.{_≡_}
 use mathlib.Core.Bool.{true, false}
 use mathlib.Core.Logic.{_⊎_}
 use mathlib.Core.List.{List, [], _∷_, _++_, map, List·Memᴰ}
-use Prim.Native.Nat.{ℕ, _-_, _*_, _≤_, _<_}
+use Prim.Native.Nat.{ℕ, _+_, _-_, _*_, _≤_, _<_}
 use lib.ListN.{length, take, drop, getD, replicate}
 use lib.Seq.{slice}
 use lib.IntN.{ℤ, pos, negsuc}
@@ -174,6 +174,7 @@ pub record Demand2 (c : Calls) (w : List ℕ) : Type 0 where
       → Gave (separatedIcflEnds w) r ends′
   -- request 103: "Each mark is a piece and a strict piece of its own .. Each nonempty stretch between neighbouring marks or the record's edges is cut as a record
   -- by itself": so it is made, and it is the only list of the kind
+  pub alone : (i : ℕ) → getD w i 0 ≡ separator → Part (separatedIcflEnds w) i (i + 1) × Part (separatedCflInEnds w) i (i + 1)
   pub byStretches : separatedIcfl w ≡ between mark (map icfl (stretches w))
   pub divided : SeparatedOf InverseLyndon DominatedBy w (separatedIcfl w)
   pub onlyPieces : (ms : List (List ℕ)) → SeparatedOf InverseLyndon DominatedBy w ms → ms ≡ separatedIcfl w

@@ -36,6 +36,7 @@ use Rattle.words.specs.stretches.Factors.{
   separated-cfl-in-unique,
   separated-icfl-ends-rise,
 }
+use Rattle.words.specs.stretches.CflInSteps.{separator-part}
 use Rattle.words.specs.stretches.TableEntries.{separated-table-letter, separated-table-separator, separated-table-length}
 use Rattle.words.specs.stretches.SeparatedDemand3.{separated-demand-3}
 use Rattle.buffers.specs.Buffers.{cleared}
@@ -216,6 +217,7 @@ module _ (c : Calls) (m : Meets c) (w : List ℕ) (s : 1 ≤ length w) where
   unfolding separatedIcfl separatedCflIn separatedTable separatedBreaks
   demand-2 q = record {
     pieces = λ work ends work′ ends′ r h. gave refl (m .pieceCut w work ends r work′ ends′ h .filled);
+    alone = separator-part w;
     byStretches = refl;
     divided = separated-icfl-is w;
     onlyPieces = separated-icfl-unique w;
