@@ -92,9 +92,10 @@ uint8_t metsroeb_lyndon_table(const uint8_t *record, size_t record_len, uint16_t
 /* The comparison, in the inverse order, of the words from start to end and from other to end: *sign is -1 if the one
  * at start comes first, 0 if the starts are equal, 1 otherwise. In this order a proper prefix comes first, and
  * at a first difference the larger byte; 255 is the largest. The range is first to end, of any part of the record.
- * Refusals 1, 2, 5, 6. */
+ * *common is how many leading bytes of the two words are equal: at most the length of the shorter one, end - start for
+ * equal starts. Refusals 1, 2, 5, 6. */
 uint8_t metsroeb_compare(const uint8_t *record, size_t record_len, size_t first, size_t end, size_t start, size_t other,
-                         int8_t *sign);
+                         int8_t *sign, uint16_t *common);
 
 /* The reader: factor number, from 0, of any list of ends that line 7 accepts. Its bytes are
  * record[*first] to record[*end - 1]. Refusals 1, 2, 7, 8. */

@@ -1,4 +1,5 @@
 //! Answers that are more than a number or a slice.
+use core::cmp::Ordering;
 use core::slice;
 
 /// What [`find_extension`](crate::find_extension) finds.
@@ -79,6 +80,15 @@ impl Iterator for Breaks<'_> {
 }
 
 impl ExactSizeIterator for Breaks<'_> {}
+
+/// How the words from two starts compare, as [`compare_suffixes`](crate::compare_suffixes) finds it.
+#[derive(Clone, Copy, Debug, PartialEq, Eq)]
+pub struct Comparison {
+    /// `Less` if the first start's word comes first in the inverse order, `Equal` if the starts are equal, `Greater` otherwise.
+    pub order: Ordering,
+    /// How many leading bytes of the two words are equal: at most as many as the shorter one has.
+    pub common: u16,
+}
 
 /// What the factors that a list of ends marks come to.
 #[derive(Clone, Copy, Debug, PartialEq, Eq)]

@@ -3,8 +3,7 @@
 //! and what is lent to be written overlaps nothing else.
 //!
 //! The tests compile this file a second time over a `raw` of their own, so it takes its names from the module above it.
-use super::{raw, Breaks, Extension, Refusal, Summary};
-use core::cmp::Ordering;
+use super::{raw, Breaks, Comparison, Extension, Refusal, Summary};
 
 /// The test: whether the record is inverse Lyndon, and if not, where and how it fails.
 ///
@@ -164,7 +163,8 @@ pub fn lyndon_table<'a>(record: &[u8], lengths: &'a mut [u16]) -> Result<&'a [u1
 }
 
 /// The comparison, in the inverse order, of the words from `start` to `end` and from `other` to `end`: `Less` if the one at
-/// `start` comes first, `Equal` if the starts are equal, `Greater` otherwise.
+/// `start` comes first, `Equal` if the starts are equal, `Greater` otherwise. Beside this order it gives how many leading bytes of
+/// the two words are equal, for equal starts `end` − `start`.
 ///
 /// In this order a proper prefix comes first, and at a first difference the larger byte; 255 is the largest. The range is `first` to
 /// `end`, of any part of the record.
@@ -173,17 +173,30 @@ pub fn lyndon_table<'a>(record: &[u8], lengths: &'a mut [u16]) -> Result<&'a [u1
 /// [`BAD_RANGE`](Refusal::BAD_RANGE), [`BAD_START`](Refusal::BAD_START).
 ///
 /// ```
-/// use metsroeb::compare_suffixes;
+/// use metsroeb::{compare_suffixes, Comparison};
 /// use std::cmp::Ordering;
 ///
-/// assert_eq!(compare_suffixes(b"bba", 0, 2, 0, 1), Ok(Ordering::Greater));
-/// assert_eq!(compare_suffixes(b"bba", 0, 3, 0, 1), Ok(Ordering::Less));
+/// let found = Comparison { order: Ordering::Greater, common: 3 }; // cbabacbac and cbac: b stands against c
+/// assert_eq!(compare_suffixes(b"cbabacbac", 0, 9, 0, 5)?, found);
+/// let found = Comparison { order: Ordering::Equal, common: 4 };
+/// assert_eq!(compare_suffixes(b"cbabacbac", 0, 9, 5, 5)?, found);
+///
+/// // bbabba and bba in the range, bbabbabbb and bbabbb to the record's end.
+/// assert_eq!(compare_suffixes(b"bbabbabbb", 0, 6, 0, 3)?.common, 3);
+/// assert_eq!(compare_suffixes(b"bbabbabbb", 0, 9, 0, 3)?.common, 5);
+///
+/// // The order in a range may be another one than to the record's end.
+/// assert_eq!(compare_suffixes(b"bba", 0, 2, 0, 1)?.order, Ordering::Greater);
+/// assert_eq!(compare_suffixes(b"bba", 0, 3, 0, 1)?.order, Ordering::Less);
+/// # Ok::<(), metsroeb::Refusal>(())
 /// ```
 #[inline]
-pub fn compare_suffixes(record: &[u8], first: usize, end: usize, start: usize, other: usize) -> Result<Ordering, Refusal> {
-    let mut sign = 0;
-    Refusal::check(unsafe { raw::metsroeb_compare(record.as_ptr(), record.len(), first, end, start, other, &mut sign) })?;
-    Ok(sign.cmp(&0))
+pub fn compare_suffixes(record: &[u8], first: usize, end: usize, start: usize, other: usize) -> Result<Comparison, Refusal> {
+    let (mut sign, mut common) = (0, 0);
+    Refusal::check(unsafe {
+        raw::metsroeb_compare(record.as_ptr(), record.len(), first, end, start, other, &mut sign, &mut common)
+    })?;
+    Ok(Comparison { order: sign.cmp(&0), common })
 }
 
 /// The reader: factor `number`, from 0, of those that the list of ends marks. It is a part of the record itself, not a copy.

@@ -30,7 +30,7 @@ mod calls;
 pub mod raw;
 mod refusal;
 
-pub use answers::{Break, Breaks, Extension, Fate, Summary};
+pub use answers::{Break, Breaks, Comparison, Extension, Fate, Summary};
 pub use calls::{cfl_in, compare_suffixes, factor_at, find_extension, icfl, icfl_with_breaks, lyndon_table, summarize};
 pub use refusal::Refusal;
 

@@ -72,7 +72,8 @@ extern "C" {
         count: *mut u16,
     ) -> u8;
 
-    /// The comparison: see [`compare_suffixes`](crate::compare_suffixes). The sign is -1, 0 or 1.
+    /// The comparison: see [`compare_suffixes`](crate::compare_suffixes). The sign is -1, 0 or 1; `common` is the number of equal
+    /// leading bytes.
     pub fn metsroeb_compare(
         record: *const u8,
         record_len: usize,
@@ -81,6 +82,7 @@ extern "C" {
         start: usize,
         other: usize,
         sign: *mut i8,
+        common: *mut u16,
     ) -> u8;
 
     /// The reader: see [`factor_at`](crate::factor_at). The factor's first place and its end.

@@ -1,5 +1,6 @@
 /* Calls each function on record H and compares the answers with paper 01's; the cut with its breaks on record I, as request
- * 102 has it; the summary also where two parts are equally long; test, cuts and table on a record with a mark. */
+ * 102 has it; the comparison also on record G, whose starts agree past the end of its first piece; the summary also where two
+ * parts are equally long; test, cuts and table on a record with a mark. */
 #include "metsroeb.h"
 
 #include <stdio.h>
@@ -30,6 +31,7 @@ int main(void)
 {
     static const uint8_t record[] = {'c', 'b', 'a', 'b', 'a', 'c', 'b', 'a', 'c'};
     static const uint8_t joined[] = "cbabacaacbabacbac";
+    static const uint8_t agreeing[] = "bbabbabbb";
     static const uint8_t marked[] = {'b', 'a', 255, 'a', 'b'};
     static const uint16_t zeros[51];
     static const uint16_t pieces[] = {5, 9};
@@ -45,6 +47,7 @@ int main(void)
     const size_t n = sizeof record;
     uint16_t work[51], ends[9], breaks[10], lengths[9];
     uint16_t failing = 77, prefix = 77, border = 77, count = 77, break_count = 77, first = 77, end = 77;
+    uint16_t common = 77;
     int8_t sign = 77;
     metsroeb_summary summary;
 
@@ -100,8 +103,21 @@ int main(void)
     expect("lyndon_table: count", count, 9);
     expect_entries("lyndon_table: lengths", lengths, table, 9);
 
-    expect("compare", metsroeb_compare(record, n, 0, 9, 0, 5, &sign), 0);
+    expect("compare", metsroeb_compare(record, n, 0, 9, 0, 5, &sign, &common), 0);
     expect("compare: sign", sign, 1);
+    expect("compare: common", common, 3);
+    expect("compare, a start at the end", metsroeb_compare(record, n, 0, 9, 0, 9, &sign, &common), 6);
+    expect("compare, a start at the end: sign", sign, 0);
+    expect("compare, a start at the end: common", common, 0);
+    expect("compare, equal starts", metsroeb_compare(record, n, 0, 9, 5, 5, &sign, &common), 0);
+    expect("compare, equal starts: sign", sign, 0);
+    expect("compare, equal starts: common", common, 4);
+    expect("compare, over a first piece", metsroeb_compare(agreeing, 9, 0, 6, 0, 3, &sign, &common), 0);
+    expect("compare, over a first piece: sign", sign, 1);
+    expect("compare, over a first piece: common", common, 3);
+    expect("compare, past it", metsroeb_compare(agreeing, 9, 0, 9, 0, 3, &sign, &common), 0);
+    expect("compare, past it: sign", sign, 1);
+    expect("compare, past it: common", common, 5);
 
     expect("factor", metsroeb_factor(record, n, pieces, 2, 1, &first, &end), 0);
     expect("factor: first", first, 5);

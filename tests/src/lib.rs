@@ -6,8 +6,7 @@ pub mod promise; // refusals and buffers, by paper 01's table
 pub mod reference; // answers, by paper 01's definitions
 pub mod words; // words of many kinds, from a seed
 
-use metsroeb::{Breaks, Extension, Refusal, Summary};
-use std::cmp::Ordering;
+use metsroeb::{Breaks, Comparison, Extension, Refusal, Summary};
 
 pub type Filling = for<'a> fn(&[u8], &'a mut [u16]) -> Result<&'a [u16], Refusal>;
 
@@ -19,7 +18,7 @@ pub struct Calls {
     pub icfl_with_breaks: for<'a> fn(&[u8], &mut [u16], &'a mut [u16], &'a mut [u16]) -> Result<(&'a [u16], Breaks<'a>), Refusal>,
     pub cfl_in: Filling,
     pub lyndon_table: Filling,
-    pub compare_suffixes: fn(&[u8], usize, usize, usize, usize) -> Result<Ordering, Refusal>,
+    pub compare_suffixes: fn(&[u8], usize, usize, usize, usize) -> Result<Comparison, Refusal>,
     pub factor_at: for<'a> fn(&'a [u8], &[u16], usize) -> Result<&'a [u8], Refusal>,
     pub summarize: fn(&[u8], &[u16]) -> Result<Summary, Refusal>,
 }

@@ -1,9 +1,8 @@
 //! Paper 01's table of refusals with the requests' lines, and what each call does to its buffers. Each function is given the right answer to its call, takes
 //! the buffers as they were before it, and leaves them as they have to be after it. It gives the right answer, or the number of
 //! the refusal.
-use crate::reference::{factors, inverse_order, summary, SEPARATOR};
-use metsroeb::{Break, Extension, Fate, Summary};
-use std::cmp::Ordering;
+use crate::reference::{common_length, factors, inverse_order, summary, SEPARATOR};
+use metsroeb::{Break, Comparison, Extension, Fate, Summary};
 
 fn refuse(no: u8, met: bool) -> Result<(), u8> {
     if met {
@@ -79,11 +78,12 @@ fn fill<'a>(answer: &'a [u16], result: &mut [u16]) -> Result<&'a [u16], u8> {
     Ok(answer)
 }
 
-pub fn compare_suffixes(word: &[u8], first: usize, end: usize, start: usize, other: usize) -> Result<Ordering, u8> {
+pub fn compare_suffixes(word: &[u8], first: usize, end: usize, start: usize, other: usize) -> Result<Comparison, u8> {
     record(word.len())?;
     refuse(5, first >= end || end > word.len())?;
     refuse(6, [start, other].iter().any(|&s| s < first || s >= end))?;
-    Ok(inverse_order(&word[start..end], &word[other..end]))
+    let (x, y) = (&word[start..end], &word[other..end]);
+    Ok(Comparison { order: inverse_order(x, y), common: common_length(x, y) as u16 })
 }
 
 /// First place and end.

@@ -1,4 +1,4 @@
-//! The answers, by paper 01's definitions and request 103's sentences and nothing else: for short records.
+//! The answers, by paper 01's definitions and the requests' sentences and nothing else: for short records.
 use metsroeb::{Break, Extension, Fate, Summary};
 use std::cmp::Ordering;
 
@@ -28,6 +28,11 @@ pub fn inverse_order(x: &[u8], y: &[u8]) -> Ordering {
         }
     }
     unreachable!()
+}
+
+/// How many leading bytes of two words are equal: the places, from the first on, at which both have a byte and the same.
+pub fn common_length(x: &[u8], y: &[u8]) -> usize {
+    (0..).take_while(|&i| x.get(i).is_some() && x.get(i) == y.get(i)).count()
 }
 
 /// Nonempty, and greater than each nonempty proper suffix. (The order of slices is the natural order.)

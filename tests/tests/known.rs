@@ -1,5 +1,5 @@
 //! Paper 01's records with known ends, and what else it and the requests say of records by name, through every implementation.
-use metsroeb::{Break, Extension, Fate, Refusal, Summary, MOST};
+use metsroeb::{Break, Comparison, Extension, Fate, Refusal, Summary, MOST};
 use metsroeb_tests::{reference, Calls, PEER, VERIFIED};
 use std::cmp::Ordering;
 
@@ -17,6 +17,7 @@ const RECORDS: [(&str, &[u16], &[u16]); 11] = [
     ("dabadabdabdadac", &[4, 10, 15], &[4, 7, 10, 15]),
     ("dabdadacddbdc", &[3, 8, 13], &[3, 8, 13]),
 ];
+const G: &[u8] = b"bbabbabbb";
 const H: &[u8] = b"cbabacbac";
 const I: &[u8] = b"cbabacaacbabacbac";
 
@@ -132,13 +133,26 @@ fn latest_of_the_longest() {
     }
 }
 
+/// Paper 01's signs, with request 104's numbers; starts that agree past the end of G's first piece; equal starts.
 #[test]
-fn comparisons_in_h_and_bba() {
-    for calls in BOTH {
-        assert_eq!((calls.compare_suffixes)(H, 0, 9, 0, 5), Ok(Ordering::Greater));
-        assert_eq!((calls.compare_suffixes)(H, 5, 9, 5, 8), Ok(Ordering::Greater));
-        assert_eq!((calls.compare_suffixes)(b"bba", 0, 2, 0, 1), Ok(Ordering::Greater));
-        assert_eq!((calls.compare_suffixes)(b"bba", 0, 3, 0, 1), Ok(Ordering::Less));
+fn comparisons_by_name() {
+    use Ordering::{Equal, Greater, Less};
+    for (word, range, starts, order, common) in [
+        (H, [0, 9], [0, 5], Greater, 3),
+        (H, [5, 9], [5, 8], Greater, 1),
+        (H, [0, 9], [5, 5], Equal, 4),
+        (H, [0, 7], [5, 5], Equal, 2),
+        (G, [0, 6], [0, 3], Greater, 3),
+        (G, [0, 9], [0, 3], Greater, 5),
+        (b"bba", [0, 2], [0, 1], Greater, 1),
+        (b"bba", [0, 3], [0, 1], Less, 1),
+    ] {
+        let (x, y) = (&word[starts[0]..range[1]], &word[starts[1]..range[1]]);
+        assert_eq!((reference::inverse_order(x, y), reference::common_length(x, y)), (order, common.into()));
+        for calls in BOTH {
+            let got = (calls.compare_suffixes)(word, range[0], range[1], starts[0], starts[1]);
+            assert_eq!(got, Ok(Comparison { order, common }));
+        }
     }
 }
 

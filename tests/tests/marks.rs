@@ -1,5 +1,5 @@
 //! What request 103 says of records with marks, bytes 255, through every implementation.
-use metsroeb::{Break, Fate, Refusal};
+use metsroeb::{Break, Comparison, Fate, Refusal};
 use metsroeb_tests::{reference, Calls, PEER, VERIFIED};
 use std::cmp::Ordering;
 
@@ -63,11 +63,15 @@ fn test_of_a_record_with_a_mark() {
     }
 }
 
-/// "The comparison treats 255 as before", as the largest letter.
+/// "The comparison treats 255 as before", as the largest letter; equal marks count as equal bytes.
 #[test]
 fn comparisons_over_marks() {
     for calls in BOTH {
-        assert_eq!((calls.compare_suffixes)(b"\xff\xffa", 0, 2, 0, 1), Ok(Ordering::Greater));
-        assert_eq!((calls.compare_suffixes)(b"\xff\xffa", 0, 3, 0, 1), Ok(Ordering::Less));
+        for (end, order) in [(2, Ordering::Greater), (3, Ordering::Less)] {
+            let got = (calls.compare_suffixes)(b"\xff\xffa", 0, end, 0, 1);
+            assert_eq!(got, Ok(Comparison { order, common: 1 }));
+        }
+        let got = (calls.compare_suffixes)(b"a\xffba\xffc", 0, 6, 0, 3);
+        assert_eq!(got, Ok(Comparison { order: Ordering::Greater, common: 2 }));
     }
 }

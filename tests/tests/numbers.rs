@@ -1,9 +1,8 @@
 //! The numbers that the exported functions write, each with guard entries of its own: those of the crate's answer, and 0 beside
 //! a refusal. What the crate answers is held to the promise by the other tests.
-use metsroeb::{raw, Extension, Refusal};
+use metsroeb::{raw, Comparison, Extension, Refusal};
 use metsroeb_tests::lent::Lent;
 use metsroeb_tests::words::{all_marked_words, all_words, Random};
-use std::cmp::Ordering;
 use std::fmt::Debug;
 
 /// Lends `call` a guarded place for each number, and panics unless it refuses as wanted and writes these numbers and nothing else.
@@ -13,14 +12,19 @@ fn expect<T: Copy + Default + PartialEq + Debug, const N: usize>(
     mut numbers: [Lent<T>; N],
     call: impl FnOnce([*mut T; N]) -> u8,
 ) {
-    let mut after = numbers.clone();
+    let before = numbers.clone();
     let refusal = call(numbers.each_mut().map(|number| number.part().as_mut_ptr()));
     assert_eq!(Refusal::check(refusal), want.map(|_| ()), "{what}");
     let wanted = want.unwrap_or([T::default(); N]);
-    for (k, number) in numbers.iter().enumerate() {
-        after[k].part()[0] = wanted[k];
-        number.expect(&after[k], what);
+    for (k, lent) in before.into_iter().enumerate() {
+        written(what, &numbers[k], lent, wanted[k]);
     }
+}
+
+/// Panics unless the wanted number stands in its place, and around it what stood there before.
+fn written<T: Copy + PartialEq + Debug>(what: &str, number: &Lent<T>, mut before: Lent<T>, wanted: T) {
+    before.part()[0] = wanted;
+    number.expect(&before, what);
 }
 
 fn entries<const N: usize>(random: &mut Random) -> [Lent<u16>; N] {
@@ -102,20 +106,21 @@ fn counts() {
 }
 
 #[test]
-fn sign() {
+fn sign_and_common() {
     let mut random = Random::new(0x5eed_0033);
     for word in records() {
+        let n = word.len();
         for _ in 0..200 {
-            let [first, end, start, other] = std::array::from_fn(|_| random.below(9));
-            let sign = |order| match order {
-                Ordering::Less => [-1],
-                Ordering::Equal => [0],
-                Ordering::Greater => [1],
-            };
-            let want = metsroeb::compare_suffixes(&word, first, end, start, other).map(sign);
-            expect("metsroeb_compare", want, [Lent::sign(&mut random)], |[sign]| unsafe {
-                raw::metsroeb_compare(word.as_ptr(), word.len(), first, end, start, other, sign)
-            });
+            let [first, end, start, other] = std::array::from_fn(|_| random.below(n.min(4096) + 3));
+            let want = metsroeb::compare_suffixes(&word, first, end, start, other);
+            let (mut sign, mut common) = (Lent::sign(&mut random), Lent::entries(1, &mut random));
+            let before = (sign.clone(), common.clone());
+            let places = (sign.part().as_mut_ptr(), common.part().as_mut_ptr());
+            let refusal = unsafe { raw::metsroeb_compare(word.as_ptr(), n, first, end, start, other, places.0, places.1) };
+            assert_eq!(Refusal::check(refusal), want.map(|_| ()), "metsroeb_compare");
+            let wanted = want.map_or((0, 0), |Comparison { order, common }| (order as i8, common));
+            written("metsroeb_compare: sign", &sign, before.0, wanted.0);
+            written("metsroeb_compare: common", &common, before.1, wanted.1);
         }
     }
 }

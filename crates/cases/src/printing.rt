@@ -41,11 +41,11 @@ fn print_others(limits: bool, run: &Run) {
     print_line(b"summarize", Call::Summary, limits, run);
 }
 
-/// All lines; `common_length` has no refusal.
+/// All lines; those that compare two words alone have no refusal.
 pub fn print_all(run: &Run) {
     print_lent(false, run);
     print_others(false, run);
-    print_line(b"common_length", Call::Common, false, run);
+    print_line(b"common_length, compare_words", Call::Common, false, run);
     print_lent(true, run);
     print_others(true, run);
 }

@@ -1,8 +1,12 @@
 -- What the comparison's inner functions ask and promise. No call's promise cites this file.
 use mathlib.Core.Path.{_≡_}
 use mathlib.Core.List.{List}
-use Prim.Native.Nat.{ℕ, _+_, _≤_}
+use Prim.Native.Nat.{ℕ, _+_, _≤_, _<_, min}
 use lib.ListN.{length, getD}
+use lib.IntN.{ℤ, pos, negsuc}
+use Rattle.words.specs.Words.{commonLength}
+use Rattle.words.specs.orders.WordSigns.{SignOfWords}
+use Rattle.common.specs.declared.order.Order.{Order}
 
 -- both words have l letters
 pub record BothHave (x y : List ℕ) (l : ℕ) : Type 0 where
@@ -15,3 +19,23 @@ pub record FourEqual (x y : List ℕ) (l : ℕ) : Type 0 where
   pub second : getD x (l + 1) 0 ≡ getD y (l + 1) 0
   pub third : getD x (l + 2) 0 ≡ getD y (l + 2) 0
   pub fourth : getD x (l + 3) 0 ≡ getD y (l + 3) 0
+
+-- the sign of two words that part at the letters a and b
+pub data LetterSign (a b : ℕ) : ℤ → Type 0 where
+  before : b ≤ a → LetterSign a b (negsuc 0)
+  after : a < b → LetterSign a b (pos 1)
+
+-- the sign of a word of m letters and one of n, of which one is a prefix of the other
+pub data PrefixSign (m n : ℕ) : ℤ → Type 0 where
+  before : m < n → PrefixSign m n (negsuc 0)
+  same : m ≡ n → PrefixSign m n (pos 0)
+  after : n < m → PrefixSign m n (pos 1)
+
+pub record PrefixOrdered (m n : ℕ) (r : Order) : Type 0 where
+  pub sign-is : PrefixSign m n (r .sign)
+  pub common-is : r .common ≡ min m n
+
+-- two words compared
+pub record Ordered (x y : List ℕ) (r : Order) : Type 0 where
+  pub sign-is : SignOfWords x y (r .sign)
+  pub common-is : r .common ≡ commonLength x y

@@ -3,21 +3,35 @@ use mathlib.Core.Path.{_≡_}
 use mathlib.Core.List.{List, [], _∷_, _++_}
 use Prim.Native.Nat.{ℕ}
 use lib.ListN.{length}
-use Rattle.words.specs.Words.{sign}
+use lib.IntN.{ℤ, pos}
+use Rattle.words.specs.Words.{sign, commonWithin}
 use Rattle.checks.specs.Lines.{Line, _unless_then_, recordLines, rangeLine, startLine}
 use Rattle.checks.specs.declared.Checked.{Checked}
 use Rattle.compare.specs.declared.suffixes.Comparison.{Comparison}
-use Rattle.compare.specs.declared.suffixes.Comparison.the-variants.{Sign, Refused}
+use Rattle.compare.specs.declared.suffixes.Comparison.the-variants.{Order, Refused}
 
 -- what an answer says: a result, or paper 01's number of the refusal
-abbrev pub signChecked : Comparison → Checked
-signChecked (Sign s) = Checked.Passed
-signChecked (Refused number) = Checked.Refused number
+abbrev pub comparisonChecked : Comparison → Checked
+comparisonChecked (Order sign common) = Checked.Passed
+comparisonChecked (Refused number) = Checked.Refused number
+
+-- the two numbers of a result, 0 beside a refusal
+abbrev pub signOf : Comparison → ℤ
+signOf (Order sign common) = sign
+signOf (Refused number) = pos 0
+
+abbrev pub commonOf : Comparison → ℕ
+commonOf (Order sign common) = common
+commonOf (Refused number) = 0
 
 -- the lines of the table that the comparison tries: 1, 2, 5 and 6, the last for each of the two starts
 abbrev pub compareLines : List ℕ → ℕ → ℕ → ℕ → ℕ → List Line
 compareLines w first end start other = recordLines w ++ rangeLine (length w) first end ∷ startLine first end start ∷ startLine first end other ∷ []
 
+-- the result: the sign, and how far the two remainders agree (request 104)
+abbrev pub orderOf : List ℕ → ℕ → ℕ → ℕ → ℕ → Comparison
+orderOf w first end start other = Order (sign w first end start other) (commonWithin w first end start other)
+
 -- the comparison's promise
 pub record Compared (w : List ℕ) (first end start other : ℕ) (r : Comparison) : Type 0 where
-  pub answer : r ≡ Sign (sign w first end start other) unless compareLines w first end start other then Refused
+  pub answer : r ≡ orderOf w first end start other unless compareLines w first end start other then Refused

@@ -1,13 +1,12 @@
 //! The comparison of two suffixes within a range.
-use super::sign::inverse_sign;
 use checks::Checked;
 ghost use mathlib.Core.Path.{_≡_};
 ghost use Rattle.checks.specs.Lines.{tried};
 ghost use Rattle.compare.specs.Compare.{compareLines, Compared};
 
-/// What the comparison answers: −1, 0 or +1, or the number of the refusal.
+/// What the comparison answers: −1, 0 or +1 and the number of equal leading letters, or the number of the refusal.
 pub enum Comparison {
-    Sign(i8),
+    Order { sign: i8, common: usize },
     Refused(u8),
 }
 
@@ -22,7 +21,7 @@ fn admit(word: &[u8], first: usize, end: usize, start: usize, other: usize) -> C
 }
 
 /// Compares the remainders at `start` and at `other` of the range from `first` to `end`, in the inverse order: −1 if the one at
-/// `start` comes first, 0 if the starts are equal, +1 otherwise.
+/// `start` comes first, 0 if the starts are equal, +1 otherwise; and counts how many of their leading letters are equal.
 pub fn compare_suffixes(
     word: &[u8],
     first: usize,
@@ -36,6 +35,9 @@ pub fn compare_suffixes(
     let Checked::Passed = admitted else {
         return Comparison::Refused(admitted.number());
     };
-    let sign = inverse_sign(&word[start..end], &word[other..end]);
-    Comparison::Sign(sign)
+    let order = common::compare_words(&word[start..end], &word[other..end]);
+    Comparison::Order {
+        sign: order.sign,
+        common: order.common,
+    }
 }

@@ -1,14 +1,15 @@
 -- THEOREMS about paper 01's careless cutters, in its order, and about two that give breaks (request 102): the demand that shuts each of them out. Each is the
--- library but for one call. And any-stretch: demand 3 would be false of stretches that are not whole pieces.
+-- library but for one call. And any-stretch, whole-answers: demand 3 would be false of stretches
+-- that are not whole pieces, and of whole answers.
 use mathlib.Core.Path.{_≡_, refl, ap, sym, _∙_}
-use mathlib.Core.List.{List, [], _∷_, _++_, flatten}
+use mathlib.Core.List.{List, [], _∷_, _++_, flatten, List·Memᴰ·head}
 use Prim.Native.Nat.{ℕ, suc, _+_, _*_, _≤_, _<_}
 use native.Mathlib.Omega.{arith}
 use lib.ListN.{length, drop, getD, replicate, length-replicate}
 use lib.Seq.{take-at}
-use lib.IntN.{pos, negsuc}
+use lib.IntN.{ℤ, pos, negsuc}
 use borrow.Author.Tests.{ne-eqb, le-ltb}
-use Rattle.words.specs.Words.{mostLetters, _≪_, sign}
+use Rattle.words.specs.Words.{mostLetters, _≪_, commonLength, sign}
 use Rattle.words.specs.Words as words
 use Rattle.words.specs.orders.MismatchLaws.{≪-asym}
 use Rattle.words.specs.orders.LexLaws.{≤ₗ-not-≪, <ₗ-≤ₗ}
@@ -16,7 +17,7 @@ use Rattle.words.specs.Factorizations.{prefixLength}
 use Rattle.words.specs.Separated.{mark, separatedIcflEnds, separatedBreaks}
 use Rattle.words.specs.declared.Fate.the-variants.{Joined}
 use Rattle.words.specs.declared.Break.{Break}
-use Rattle.words.specs.Statements.{here, there, Compatible}
+use Rattle.words.specs.Statements.{here, there, WholePieces, Compatible}
 use Rattle.words.specs.Examples.{a, b, c}
 use Rattle.buffers.specs.Buffers.{cleared, written}
 use Rattle.checks.specs.Lines.{Line, tried, _unless_then_, resultLine}
@@ -29,6 +30,7 @@ use Rattle.fates.proofs.EntryLaws.{length-entries}
 use Rattle.icfl.specs.Icfl.{icflAdmission, icflLines, workAfter}
 use Rattle.icfl.specs.declared.with_breaks.CountedBreaks.{CountedBreaks}
 use Rattle.compare.specs.declared.suffixes.Comparison.{Comparison}
+use Rattle.compare.specs.Compare.{signOf, commonOf}
 use Rattle.demands.specs.Demands.{Calls, library, Demand1, Demand2, Demand3}
 use Rattle.demands.specs.Meets.{Meets}
 
@@ -225,19 +227,36 @@ strict-not-losing compare d =
 
 -- ---- "Trusting the comparison on a stretch that is not whole pieces."
 
-abbrev pub aboveZero : Comparison → ℕ
-aboveZero (Comparison.Sign (pos n)) = n
-aboveZero (Comparison.Sign (negsuc n)) = 0
-aboveZero (Comparison.Refused e) = 0
+abbrev pub aboveZero : ℤ → ℕ
+aboveZero (pos n) = n
+aboveZero (negsuc n) = 0
 
 -- demand 3's field, of every stretch in `bba`
 pub any-stretch : (calls : Calls) → Meets calls → (compare : ℕ → ℕ → ℕ → ℕ → Comparison)
     → ((first end start other : ℕ) → calls .Comparing (b ∷ b ∷ a ∷ []) first end start other (compare first end start other))
-    → ¬ Compatible (λ first end. end ≤ 3) 3 compare
+    → ¬ Compatible (λ first end. end ≤ 3) 3 (λ first end start other. signOf (compare first end start other))
 unfolding tried sign
 any-stretch calls m compare h same =
-    let over-2 : compare 0 2 0 1 ≡ Comparison.Sign (pos 1) = m .comparison _ 0 2 0 1 _ (h 0 2 0 1) .answer in
-    let over-3 : compare 0 3 0 1 ≡ Comparison.Sign (negsuc 0) = m .comparison _ 0 3 0 1 _ (h 0 3 0 1) .answer in
-    let e : compare 0 2 0 1 ≡ compare 0 3 0 1 = same 0 2 0 1 (omega arith) (omega arith) (omega arith) (omega arith) (omega arith) (λ z. omega arith) in
+    let over-2 : signOf (compare 0 2 0 1) ≡ pos 1 = ap signOf (m .comparison _ 0 2 0 1 _ (h 0 2 0 1) .answer) in
+    let over-3 : signOf (compare 0 3 0 1) ≡ negsuc 0 = ap signOf (m .comparison _ 0 3 0 1 _ (h 0 3 0 1) .answer) in
+    let e : signOf (compare 0 2 0 1) ≡ signOf (compare 0 3 0 1) =
+    same 0 2 0 1 (omega arith) (omega arith) (omega arith) (omega arith) (omega arith) (λ z. omega arith) in
     let z : _≡_ {A = ℕ} 1 0 = ap aboveZero (sym over-2 ∙ (e ∙ over-3)) in
+    omega arith
+
+-- ---- demand 3's field, of whole answers: over the first piece of G, starts 0 and 3 agree for 3 letters, and to the record's end for 5
+
+abbrev G : List ℕ
+G = b ∷ b ∷ a ∷ b ∷ b ∷ a ∷ b ∷ b ∷ b ∷ []
+
+pub whole-answers : (calls : Calls) → Meets calls → (compare : ℕ → ℕ → ℕ → ℕ → Comparison)
+    → ((first end start other : ℕ) → calls .Comparing G first end start other (compare first end start other))
+    → ¬ Compatible (WholePieces (separatedIcflEnds G)) 9 compare
+unfolding tried sign commonLength separatedIcflEnds
+whole-answers calls m compare h same =
+    let over-6 : commonOf (compare 0 6 0 3) ≡ 3 = ap commonOf (m .comparison _ 0 6 0 3 _ (h 0 6 0 3) .answer) in
+    let over-9 : commonOf (compare 0 9 0 3) ≡ 5 = ap commonOf (m .comparison _ 0 9 0 3 _ (h 0 9 0 3) .answer) in
+    let e : compare 0 6 0 3 ≡ compare 0 9 0 3 = same 0 6 0 3 (List·Memᴰ·head refl, List·Memᴰ·head refl)
+    (omega arith) (omega arith) (omega arith) (omega arith) (λ z. omega arith) in
+    let z : _≡_ {A = ℕ} 3 5 = sym over-6 ∙ (ap commonOf e ∙ over-9) in
     omega arith

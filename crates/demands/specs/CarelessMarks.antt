@@ -19,6 +19,7 @@ use Rattle.extension.specs.declared.Extension.{Extension}
 use Rattle.extension.specs.Extension.{extensionOf}
 use Rattle.icfl.specs.Icfl.{icflAdmission}
 use Rattle.compare.specs.declared.suffixes.Comparison.{Comparison}
+use Rattle.compare.specs.Compare.{signOf}
 use Rattle.demands.specs.Demands.{Calls, library, Demand1, Demand2}
 use Rattle.demands.specs.Meets.{Meets}
 use Rattle.demands.specs.Careless.{cutter, CutsAt, other-ends, Answering, aboveZero}
@@ -78,12 +79,12 @@ nine-before-three d =
 
 pub over-marks : (calls : Calls) → Meets calls → (compare : ℕ → ℕ → ℕ → ℕ → Comparison)
     → ((first end start other : ℕ) → calls .Comparing (m ∷ m ∷ a ∷ []) first end start other (compare first end start other))
-    → ¬ Compatible (WholePieces (separatedIcflEnds (m ∷ m ∷ a ∷ []))) 3 compare
+    → ¬ Compatible (WholePieces (separatedIcflEnds (m ∷ m ∷ a ∷ []))) 3 (λ first end start other. signOf (compare first end start other))
 unfolding tried sign separatedIcflEnds
 over-marks calls meets compare h same =
-    let over-2 : compare 0 2 0 1 ≡ Comparison.Sign (pos 1) = meets .comparison _ 0 2 0 1 _ (h 0 2 0 1) .answer in
-    let over-3 : compare 0 3 0 1 ≡ Comparison.Sign (negsuc 0) = meets .comparison _ 0 3 0 1 _ (h 0 3 0 1) .answer in
-    let e : compare 0 2 0 1 ≡ compare 0 3 0 1 = same 0 2 0 1 (List·Memᴰ·head refl, List·Memᴰ·tail (List·Memᴰ·head refl))
+    let over-2 : signOf (compare 0 2 0 1) ≡ pos 1 = ap signOf (meets .comparison _ 0 2 0 1 _ (h 0 2 0 1) .answer) in
+    let over-3 : signOf (compare 0 3 0 1) ≡ negsuc 0 = ap signOf (meets .comparison _ 0 3 0 1 _ (h 0 3 0 1) .answer) in
+    let e : signOf (compare 0 2 0 1) ≡ signOf (compare 0 3 0 1) = same 0 2 0 1 (List·Memᴰ·head refl, List·Memᴰ·tail (List·Memᴰ·head refl))
     (omega arith) (omega arith) (omega arith) (omega arith) (λ z. omega arith) in
     let z : _≡_ {A = ℕ} 1 0 = ap aboveZero (sym over-2 ∙ (e ∙ over-3)) in
     omega arith

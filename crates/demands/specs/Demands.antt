@@ -5,7 +5,7 @@ use mathlib.Core.Path.{_≡_}
 use mathlib.Core.Bool.{true, false}
 use mathlib.Core.Logic.{_⊎_}
 use mathlib.Core.List.{List, [], _∷_, _++_, map, List·Memᴰ}
-use Prim.Native.Nat.{ℕ, _+_, _-_, _*_, _≤_, _<_}
+use Prim.Native.Nat.{ℕ, _+_, _-_, _*_, _≤_, _<_, min, max}
 use lib.ListN.{length, take, drop, getD, replicate}
 use lib.Seq.{slice}
 use lib.IntN.{ℤ, pos, negsuc}
@@ -13,7 +13,7 @@ use lib.Dec.{eqb}
 use Rattle.words.specs.Words.{mostLetters, _≪_, _⊑_, _<ₗ_, InverseLyndon, AntiLyndon}
 use Rattle.words.specs.Factorizations.{icfl, icflBreaks, breaksFrom, cflIn, lyndonTable, joinFirst, failingLength, prefixLength, borderLength}
 use Rattle.words.specs.declared.Break.{Break}
-use Rattle.words.specs.Statements.{BoundedExtension, BreaksOf, DominatedBy, EqualOrAfter, CflInOf, Part, WholePieces, Compatible}
+use Rattle.words.specs.Statements.{BoundedExtension, BreaksOf, DominatedBy, EqualOrAfter, CflInOf, SharedMost, Part, WholePieces, Compatible}
 use Rattle.words.specs.Separated.{
   separator,
   mark,
@@ -44,11 +44,11 @@ use Rattle.icfl.specs.IcflBreaks.{breaksLines, breaksChecked, BreaksDone}
 use Rattle.cfl.specs.CflIn.{cflInLines, CflInDone}
 use Rattle.table.specs.Table.{tableLines, Tabled}
 use Rattle.compare.specs.declared.suffixes.Comparison.{Comparison}
-use Rattle.compare.specs.Compare.{signChecked, compareLines, Compared}
+use Rattle.compare.specs.Compare.{comparisonChecked, signOf, commonOf, compareLines, Compared}
 use Rattle.reading.specs.Factor.{factorLines, FactorAt}
 use Rattle.summary.specs.declared.Summary.{Summary}
 use Rattle.summary.specs.Summary.{summaryLines, Summarized}
-use Rattle.exports.specs.Exports.{TestNumbers, IcflNumbers, BreaksNumbers, CflInNumbers, TableNumbers, SignNumber, FactorNumbers}
+use Rattle.exports.specs.Exports.{TestNumbers, IcflNumbers, BreaksNumbers, CflInNumbers, TableNumbers, ComparisonNumbers, FactorNumbers}
 
 -- ---- the calls: which answers each may give, with which contents of the lent buffers afterwards
 
@@ -86,8 +86,8 @@ countBy number count = decided (numbered number) (Counted.Count count) Counted.R
 abbrev pub countsBy : (number factors breaks : ℕ) → CountedBreaks
 countsBy number factors breaks = decided (numbered number) (CountedBreaks.Counts factors breaks) CountedBreaks.Refused
 
-abbrev pub signBy : (number : ℕ) (sign : ℤ) → Comparison
-signBy number sign = decided (numbered number) (Comparison.Sign sign) Comparison.Refused
+abbrev pub comparisonBy : (number : ℕ) (sign : ℤ) (common : ℕ) → Comparison
+comparisonBy number sign common = decided (numbered number) (Comparison.Order sign common) Comparison.Refused
 
 -- the exported functions, by their promises in numbers
 abbrev pub exported : Calls
@@ -97,7 +97,7 @@ exported = record {
   ReasonedCut = λ w work ends breaks r work′ ends′ breaks′. (e n k : ℕ) × (r ≡ countsBy e n k) × BreaksNumbers w work ends breaks e n k work′ ends′ breaks′;
   StrictCut = λ w ends r ends′. (e n : ℕ) × (r ≡ countBy e n) × CflInNumbers w ends e n ends′;
   StartTable = λ w out r out′. (e n : ℕ) × (r ≡ countBy e n) × TableNumbers w out e n out′;
-  Comparing = λ w first end start other r. (e : ℕ) × (s : ℤ) × (r ≡ signBy e s) × SignNumber w first end start other e s;
+  Comparing = λ w first end start other r. (e : ℕ) × (s : ℤ) × (n : ℕ) × (r ≡ comparisonBy e s n) × ComparisonNumbers w first end start other e s n;
   Reading = λ w es k part number. (i j : ℕ) × (part ≡ slice i j w) × FactorNumbers w es k number i j;
   Summing = Summarized;
 }
@@ -137,7 +137,7 @@ pub record Demand1 (c : Calls) : Type 0 where
   pub startTable : (w out out′ : List ℕ) (r : Counted) → c .StartTable w out r out′
       → Answers (1 ∷ 2 ∷ 4 ∷ []) (tableLines w (length out)) (countChecked r) × Untouched (countChecked r) out out′
   pub comparison : (w : List ℕ) (first end start other : ℕ) (r : Comparison) → c .Comparing w first end start other r
-      → Answers (1 ∷ 2 ∷ 5 ∷ 6 ∷ []) (compareLines w first end start other) (signChecked r)
+      → Answers (1 ∷ 2 ∷ 5 ∷ 6 ∷ []) (compareLines w first end start other) (comparisonChecked r)
   pub reader : (w es : List ℕ) (k : ℕ) (part : List ℕ) (number : ℕ) → c .Reading w es k part number
       → Answers (1 ∷ 2 ∷ 7 ∷ 8 ∷ []) (factorLines w es k) (numbered number)
   pub summary : (w es : List ℕ) (r : Summary) → c .Summing w es r → Answers (1 ∷ 2 ∷ 7 ∷ []) (summaryLines w es) (numbered (r .refusal))
@@ -208,13 +208,30 @@ pub record Demand2 (c : Calls) (w : List ℕ) : Type 0 where
 
 -- ---- demand 3, for a record w, the ends es that the piece cut wrote, the ends ss that the strict cut wrote, and the comparison's answers
 
+-- a stretch of a record of n bytes, and two starts in it
+pub record Inside (n first end start other : ℕ) : Type 0 where
+  pub range : end ≤ n
+  pub start-from : first ≤ start
+  pub start-below : start < end
+  pub other-from : first ≤ other
+  pub other-below : other < end
+
 pub record Demand3 (w es ss : List ℕ) (compare : ℕ → ℕ → ℕ → ℕ → Comparison) : Type 0 where
   -- "For every stretch of whole neighbouring pieces and every two different starting minutes inside it, the inverse order found from that stretch alone is
   -- exactly the one found when both run to the record's end."
   -- Request 103: "The promise about two starting minutes covers stretches without marks".
-  pub compatible : Compatible (UnmarkedPieces w es) (length w) compare
+  pub compatible : Compatible (UnmarkedPieces w es) (length w) (λ first end start other. signOf (compare first end start other))
   pub decided : (first end start other : ℕ) → WholePieces es first end → first ≤ start → start < end → first ≤ other → other < end → ¬ (start ≡ other)
-      → (compare first end start other ≡ Comparison.Sign (negsuc 0)) ⊎ (compare first end start other ≡ Comparison.Sign (pos 1))
+      → (signOf (compare first end start other) ≡ negsuc 0) ⊎ (signOf (compare first end start other) ≡ pos 1)
+  -- request 104, of any stretch: "the number of equal leading bytes before the stretch ends for either of them. For equal starts that is the whole remainder."
+  pub shared : (first end start other : ℕ) → Inside (length w) first end start other → SharedMost w end start other (commonOf (compare first end start other))
+  pub remainder : (first end start other : ℕ) → Inside (length w) first end start other → start ≡ other
+      → commonOf (compare first end start other) ≡ end - start
+  pub either : (first end start other : ℕ) → Inside (length w) first end start other
+      → commonOf (compare first end start other) ≡ commonOf (compare first end other start)
+  -- the smaller of the number to the record's end and what the stretch leaves after the later start
+  pub within : (first end start other : ℕ) → Inside (length w) first end start other
+      → commonOf (compare first end start other) ≡ min (commonOf (compare 0 (length w) start other)) (end - max start other)
   -- "In natural byte order each piece exceeds every shorter ending of its own, and each but the last loses to the next piece at a byte that both have." Request
   -- 103: "a piece is measured against the next only where neither is a mark".
   pub exceeds : (i j : ℕ) → Part es i j → (u s : List ℕ) → u ++ s ≡ slice i j w → 0 < length u → 0 < length s → s <ₗ slice i j w

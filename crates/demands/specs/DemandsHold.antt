@@ -1,5 +1,5 @@
--- THEOREMS library-demands, exported-demands: the customer's demands hold of the library's calls and of the exported functions; demand-1, demand-2, demand-3:
--- they hold of all calls whose answers meet the promises.
+-- THEOREMS library-demands, exported-demands: the customer's demands hold of the library's calls and of the exported functions; demand-1, demand-2: the first two
+-- hold of all calls whose answers meet the promises.
 use mathlib.Core.Path.{_≡_, refl, ap, sym, _∙_}
 use mathlib.Core.Bool.{Bool, true, false}
 use mathlib.Core.Logic.{_⊎_, inl, inr}
@@ -8,13 +8,11 @@ use Prim.Native.Nat.{ℕ, zero, suc, _*_, _≤_, _<_}
 use native.Mathlib.Omega.{arith}
 use lib.ListN.{length, drop, getD, replicate, length-drop, length-replicate}
 use lib.Seq.{take-at, drop-at}
-use lib.IntN.{ℤ, pos, negsuc}
 use lib.Dec.{ltb}
 use borrow.Author.Tests.{ne-eqb}
-use Rattle.words.specs.Words.{mostLetters, InverseLyndon, sign}
-use Rattle.words.specs.Separated.{separator, separatedIcfl, separatedCflIn, separatedTable, separatedIcflEnds, separatedCflInEnds, separatedBreaks}
-use Rattle.words.specs.SeparatedStatements.{UnmarkedPieces, SeparatedDemand3}
-use Rattle.words.specs.Statements.{BoundedExtension, WholePieces}
+use Rattle.words.specs.Words.{mostLetters, InverseLyndon}
+use Rattle.words.specs.Separated.{separator, separatedIcfl, separatedCflIn, separatedTable, separatedIcflEnds, separatedBreaks}
+use Rattle.words.specs.Statements.{BoundedExtension}
 use Rattle.words.specs.lyndon.AntiLyndonLaws.{longest-is, longest-positive}
 use Rattle.words.specs.icfl.BoundedExtension.{extension-is}
 use Rattle.words.specs.breaks.IcflBreaks.{icfl-breaks}
@@ -24,28 +22,19 @@ use Rattle.words.specs.cfl_in.CflInIs.{cfl-in-is}
 use Rattle.words.specs.cfl_in.CflInUnique.{cfl-in-unique}
 use Rattle.words.specs.Factorizations.{longestAntiLyndon}
 use Rattle.words.specs.table.LyndonTableCflIn.{lyndon-table-at}
-use Rattle.words.specs.orders.SignLaws.{SignOf, before, equal, after, sign-is}
-use Rattle.words.specs.places.Parts.{rises-below}
 use Rattle.words.specs.stretches.Separation.{stretches-joined, stretches-unmarked}
 use Rattle.words.specs.stretches.StretchBreaks.{breaks-moved}
 use Rattle.words.specs.stretches.StretchEnds.{separated-kept-ends}
-use Rattle.words.specs.stretches.Factors.{
-  separated-icfl-is,
-  separated-icfl-unique,
-  separated-cfl-in-is,
-  separated-cfl-in-unique,
-  separated-icfl-ends-rise,
-}
+use Rattle.words.specs.stretches.Factors.{separated-icfl-is, separated-icfl-unique, separated-cfl-in-is, separated-cfl-in-unique}
 use Rattle.words.specs.stretches.CflInSteps.{separator-part}
 use Rattle.words.specs.stretches.TableEntries.{separated-table-letter, separated-table-separator, separated-table-length}
-use Rattle.words.specs.stretches.SeparatedDemand3.{separated-demand-3}
 use Rattle.buffers.specs.Buffers.{cleared}
 use Rattle.checks.specs.Lines.{Line, tried, decided, _unless_then_}
 use Rattle.checks.specs.Answers.{numbered, numberOf, countChecked, Filled}
 use Rattle.checks.specs.declared.Checked.{Checked}
 use Rattle.checks.specs.declared.Checked.the-variants.{Passed, Refused}
 use Rattle.checks.specs.declared.Counted.{Counted}
-use Rattle.checks.proofs.LineLaws.{not-both, said, everyNumber, among, first-listed, zero-passes, numbered-is, filled-front}
+use Rattle.checks.proofs.LineLaws.{not-both, said, everyNumber, among, first-listed, zero-passes, numbered-is}
 use Rattle.extension.specs.declared.Extension.{Extension}
 use Rattle.extension.specs.Extension.{extensionOf, testChecked, extensionLines, ExtensionFound}
 use Rattle.extension.proofs.VerdictLaws.{fails-told, holds-told, verdict-checked}
@@ -55,26 +44,11 @@ use Rattle.icfl.specs.declared.with_breaks.CountedBreaks.{CountedBreaks}
 use Rattle.icfl.specs.Icfl.{workAfter}
 use Rattle.icfl.specs.IcflBreaks.{breaksLines, breaksChecked, BreaksDone}
 use Rattle.compare.specs.declared.suffixes.Comparison.{Comparison}
-use Rattle.compare.specs.Compare.{signChecked, compareLines}
-use Rattle.compare.proofs.ComparisonLaws.{Within, within-passes}
+use Rattle.compare.specs.Compare.{comparisonChecked, compareLines, orderOf}
 use Rattle.summary.specs.Summary.{summaryLines, summaryOf, emptySummary}
-use Rattle.demands.specs.Demands.{
-  Calls,
-  library,
-  exported,
-  Answers,
-  Untouched,
-  UntouchedBut4,
-  Demand1,
-  Gave,
-  GaveBoth,
-  Published,
-  Demand2,
-  Demand3,
-  Runs,
-  Demands,
-}
+use Rattle.demands.specs.Demands.{Calls, library, exported, Answers, Untouched, UntouchedBut4, Demand1, Gave, GaveBoth, Published, Demand2, Demands}
 use Rattle.demands.specs.Meets.{Meets, Total, library-meets, library-total, exported-meets, exported-total}
+use Rattle.demands.specs.Demand3Holds.{demand-3}
 use Rattle.demands.specs.RunsExist.{runs-exist}
 
 -- ---- demand 1
@@ -153,10 +127,10 @@ module _ (c : Calls) (m : Meets c) where
         let f = m .startTable w out r out′ h in
         (answers _ _ (filled-says f) refl refl, untouched _ _ _ (filled-says f) (f .result));
     comparison = λ w first end start other r h.
-        let result = Comparison.Sign (sign w first end start other) in
+        let result = orderOf w first end start other in
         answers _ _
-        (ap signChecked (m .comparison w first end start other r h .answer)
-        ∙ said signChecked result (λ (i : ℕ). Comparison.Refused i) refl (λ number. refl) (tried (compareLines w first end start other)))
+        (ap comparisonChecked (m .comparison w first end start other r h .answer)
+        ∙ said comparisonChecked result (λ (i : ℕ). Comparison.Refused i) refl (λ number. refl) (tried (compareLines w first end start other)))
         refl refl;
     reader = λ w es k part number h. numbered-answers _ _ (m .reader w es k part number h .number-is) refl refl;
     summary = λ w es r h.
@@ -242,56 +216,6 @@ module _ (c : Calls) (m : Meets c) (w : List ℕ) (s : 1 ≤ length w) where
     inside = λ i l h. rw (entry-at w i l h, ← length-drop i w) (longest-is (drop i w) .upto);
     longest = λ i l h. rw (entry-at w i l h) (longest-is (drop i w) .word (longest-positive (drop i w) (rw length-drop (omega arith))));
     noLonger = λ i n l h a b. longest-is (drop i w) .longer n (rw (entry-at w i l h) at a) (rw length-drop b);
-  }
-
--- ---- demand 3
-
-module _ (c : Calls) (m : Meets c) (w es ss : List ℕ) (compare : ℕ → ℕ → ℕ → ℕ → Comparison) (r : Runs c w es ss compare) where
-  pieces-are : es ≡ separatedIcflEnds w
-  pieces-are = let q = r .pieceCut in q .6 ∙ filled-front (m .pieceCut w _ _ _ _ _ (q .5) .filled) .0
-
-  strict-are : ss ≡ separatedCflInEnds w
-  strict-are = let q = r .strictCut in q .4 ∙ filled-front (m .strictCut w _ _ _ (q .3)) .0
-
-  -- inside an accepted range the comparison answers the sign
-  signs : (first end start other : ℕ) → end ≤ length w → first ≤ start → start < end → first ≤ other → other < end
-      → compare first end start other ≡ Comparison.Sign (sign w first end start other)
-  signs first end start other l a b p d =
-      let within : Within w first end start other = record { short = r .short; inside = l; start-from = a; start-below = b; other-from = p; other-below = d } in
-      m .comparison w first end start other _ (r .comparison first end start other) .answer ∙ rw (within-passes w first end start other within)
-
-  theory : SeparatedDemand3 w
-  theory = separated-demand-3 w (r .bytes)
-
-  module _ (first end start other : ℕ) (a : first ≤ start) (b : start < end) (p : first ≤ other) (d : other < end) (n : ¬ (start ≡ other)) where
-    inside : WholePieces es first end → end ≤ length w
-    inside g = rises-below (separated-icfl-ends-rise w) (rw pieces-are at (g .1))
-
-    sign-decided : WholePieces es first end → (compare first end start other ≡ Comparison.Sign (negsuc 0)) ⊎ (compare first end start other ≡ Comparison.Sign (pos 1))
-    sign-decided g = go (sign-is w first end start other) (signs first end start other (inside g) a b p d)
-      where
-        go : {s : ℤ} → SignOf w first end start other s → compare first end start other ≡ Comparison.Sign s
-            → (compare first end start other ≡ Comparison.Sign (negsuc 0)) ⊎ (compare first end start other ≡ Comparison.Sign (pos 1))
-        go (before x k) e = inl e
-        go (equal z) e = absurd (n z)
-        go (after x k) e = inr e
-
-    same-sign : UnmarkedPieces w es first end → compare first end start other ≡ compare 0 (length w) start other
-    same-sign g =
-        let t = theory .compatible first end start other (rw pieces-are at g) a b p d n in
-        let l : end ≤ length w = inside (g .0) in
-        signs first end start other l a b p d
-        ∙ (ap (λ (s : ℤ). Comparison.Sign s) t
-        ∙ sym (signs 0 (length w) start other (omega arith) (omega arith) (omega arith) (omega arith) (omega arith)))
-
-  pub demand-3 : Demand3 w es ss compare
-  demand-3 = record {
-    compatible = λ first end start other g a b p d n. same-sign first end start other a b p d n g;
-    decided = λ first end start other g a b p d n. sign-decided first end start other a b p d n g;
-    exceeds = rw pieces-are (theory .exceeds);
-    loses = rw pieces-are (theory .loses);
-    strict = rw (pieces-are, strict-are) (theory .strict);
-    nested = rw (pieces-are, strict-are) (theory .nested);
   }
 
 -- ---- the library's calls, and the exported functions

@@ -1,4 +1,4 @@
--- The customer's demands. Demands has the statements, DemandsHold the theorems: library-demands and exported-demands.
+-- The customer's demands. Demands has the statements, DemandsHold and Demand3Holds the theorems: library-demands and exported-demands.
 --   Meets            the answers of the library's calls and of the exported functions meet the promises
 --   RunsExist        for every record there is what demand 3 speaks of
 --   Careless         paper 01's careless cutters, two careless cuts with breaks, and the demand that shuts each of them out
@@ -6,6 +6,7 @@
 pub mod Demands
 pub mod Meets
 pub mod RunsExist
+pub mod Demand3Holds
 pub mod DemandsHold
 pub mod Careless
 pub mod CarelessMarks

@@ -10,7 +10,7 @@ use lib.Seq.{slice, slice-empty}
 use lib.IntN.{ℤ}
 use lib.Dec.{eqb, ltb}
 use borrow.Author.Tests.{ne-eqb}
-use Rattle.words.specs.Words.{InverseLyndon, isInverseLyndon, sign}
+use Rattle.words.specs.Words.{InverseLyndon, isInverseLyndon}
 use Rattle.words.specs.Factorizations.{failingLength, prefixLength, borderLength}
 use Rattle.words.specs.Separated.{separatedIcflEnds, separatedBreaks}
 use Rattle.words.specs.orders.Decisions.{decides-false}
@@ -31,12 +31,12 @@ use Rattle.icfl.specs.IcflBreaks.{breaksLines, BreaksDone}
 use Rattle.cfl.specs.CflIn.{CflInDone}
 use Rattle.table.specs.Table.{Tabled}
 use Rattle.compare.specs.declared.suffixes.Comparison.{Comparison}
-use Rattle.compare.specs.Compare.{compareLines, Compared}
+use Rattle.compare.specs.Compare.{compareLines, orderOf, Compared}
 use Rattle.reading.specs.Factor.{factorLines, factorFrom, FactorAt}
 use Rattle.summary.specs.declared.Summary.{Summary}
 use Rattle.summary.specs.Summary.{Summarized}
-use Rattle.exports.specs.Exports.{ifFailing, TestNumbers, FilledNumbers, BreaksNumbers, SignNumber, FactorNumbers}
-use Rattle.demands.specs.Demands.{Calls, library, exported, verdictBy, countBy, countsBy, signBy}
+use Rattle.exports.specs.Exports.{ifFailing, TestNumbers, FilledNumbers, BreaksNumbers, ComparisonNumbers, FactorNumbers}
+use Rattle.demands.specs.Demands.{Calls, library, exported, verdictBy, countBy, countsBy, comparisonBy}
 
 pub record Meets (c : Calls) : Type 0 where
   pub test : (w work : List ℕ) (r : Extension) (work′ : List ℕ) → c .Test w work r work′ → ExtensionFound w work r work′
@@ -135,11 +135,11 @@ test-by w work {e} {l} {p} {b} f z =
       buffer = f .buffer;
     }
 
-sign-by : (w : List ℕ) (first end start other : ℕ) {e : ℕ} {s : ℤ} {r : Comparison} → SignNumber w first end start other e s → r ≡ signBy e s
-    → Compared w first end start other r
-sign-by w first end start other {e} {s} f z = record {
-  answer = z ∙ back (compareLines w first end start other) refl (Comparison.Sign (sign w first end start other)) (Comparison.Sign s)
-      (λ (i : ℕ). Comparison.Refused i) (f .refusal) (λ h. ap (λ (t : ℤ). Comparison.Sign t) (rw h at (f .sign-is)));
+order-by : (w : List ℕ) (first end start other : ℕ) {e : ℕ} {s : ℤ} {n : ℕ} {r : Comparison} → ComparisonNumbers w first end start other e s n
+    → r ≡ comparisonBy e s n → Compared w first end start other r
+order-by w first end start other {s = s} {n = n} f z = record {
+  answer = z ∙ back (compareLines w first end start other) refl (orderOf w first end start other) (Comparison.Order s n)
+      (λ (i : ℕ). Comparison.Refused i) (f .refusal) (λ h. rw (rw h at (f .sign-is), rw h at (f .common-is)));
 }
 
 -- from 0 to 0, the part beside a refusal is empty
@@ -158,7 +158,7 @@ exported-meets = record {
   reasonedCut = λ w work ends breaks r work′ ends′ breaks′ h. breaks-by w work ends breaks (h .4) (h .3);
   strictCut = λ w ends r ends′ h. filled-by _ refl (h .3) (h .2);
   startTable = λ w out r out′ h. filled-by _ refl (h .3) (h .2);
-  comparison = λ w first end start other r h. sign-by w first end start other (h .3) (h .2);
+  comparison = λ w first end start other r h. order-by w first end start other (h .4) (h .3);
   reader = λ w es k part number h. part-by w es k (h .3) (h .2);
   summary = λ w es r h. h;
 }
@@ -167,5 +167,5 @@ pub exported-total : Total exported
 exported-total = record {
   pieceCut = λ w work ends. (_, _, _, (_, _, refl, record { filled = record { refusal = refl; count-is = refl; result = refl }; worked = refl }));
   strictCut = λ w ends. (_, _, (_, _, refl, record { refusal = refl; count-is = refl; result = refl }));
-  comparison = λ w first end start other. (_, (_, _, refl, record { refusal = refl; sign-is = refl }));
+  comparison = λ w first end start other. (_, (_, _, _, refl, record { refusal = refl; sign-is = refl; common-is = refl }));
 }

@@ -1,20 +1,21 @@
 -- The calls' promises as numbers: counts (filled-numbers, and that they fit: icfl-small, cfl-in-small, table-small), the cut with breaks (breaks-numbers,
--- breaks-small), the test (test-numbers, test-holds, test-small), the sign (sign-numbers, sign-refused).
+-- breaks-small), the test (test-numbers, test-holds, test-small), the comparison (comparison-numbers, comparison-small).
 use mathlib.Core.Path.{_≡_, refl, ap, _∙_}
 use mathlib.Core.Bool.{true, false}
 use mathlib.Core.List.{List, [], _∷_, _++_}
 use Prim.Native.Nat.{ℕ, _≤_}
 use native.Mathlib.Omega.{arith}
 use lib.ListN.{length}
-use lib.IntN.{ℤ, pos}
+use lib.IntN.{ℤ}
 use mir.Syntax.{w8}
 use mir.Val.{toZ, ofZ}
 use types.Run.{OneOf}
 use denote.Enum.Declared.{tagOf}
-use Rattle.words.specs.Words.{mostLetters, sign}
+use Rattle.words.specs.Words.{mostLetters, sign, commonWithin}
 use Rattle.words.specs.Factorizations.{failingLength, prefixLength, borderLength}
 use Rattle.words.specs.Separated.{separatedIcflEnds, separatedBreaks}
 use Rattle.words.specs.orders.SignLaws.{SignOf, before, equal, after, sign-is}
+use Rattle.words.specs.orders.CommonWithin.{common-within-short}
 use Rattle.words.specs.places.EndsRise.{rises-few}
 use Rattle.words.specs.stretches.Factors.{separated-icfl-ends-rise, separated-cfl-in-ends-rise}
 use Rattle.words.specs.stretches.StretchBreaks.{separated-breaks-few}
@@ -35,9 +36,9 @@ use Rattle.icfl.specs.declared.with_breaks.CountedBreaks.{CountedBreaks}
 use Rattle.cfl.specs.CflIn.{CflInDone}
 use Rattle.table.specs.Table.{Tabled}
 use Rattle.compare.specs.declared.suffixes.Comparison.{Comparison}
-use Rattle.compare.specs.Compare.{compareLines, Compared}
+use Rattle.compare.specs.Compare.{comparisonChecked, signOf, commonOf, compareLines, orderOf, Compared}
 use Rattle.exports.specs.declared.Reply.{Reply}
-use Rattle.exports.specs.Exports.{ifFailing, TestNumbers, FilledNumbers, BreaksNumbers, SignNumber, Small, replyOf}
+use Rattle.exports.specs.Exports.{ifFailing, TestNumbers, FilledNumbers, BreaksNumbers, ComparisonNumbers, Small, replyOf}
 
 -- ---- counts
 
@@ -170,7 +171,7 @@ test-small w work work′ l p r f = go (tried (extensionLines w (length work))) 
         record { failing = omega (arith, v .upto, a .short); prefix = omega (arith, v .inside, a .short); border = omega (arith, v .inside, a .short) }
     go (Refused number) z x = let b : _≡_ {A = ℕ} 0 1 = cc in absurd (omega arith)
 
--- ---- the sign
+-- ---- the comparison
 
 -- −1, 0 and +1 are read back from their bits as they are
 sign-read : {w : List ℕ} {first end start other : ℕ} {s : ℤ} → SignOf w first end start other s → toZ w8 (ofZ w8 s) ≡ s
@@ -179,22 +180,26 @@ sign-read (equal e) = refl
 sign-read (after n h) = refl
 
 module _ (w : List ℕ) (first end start other : ℕ) where
-  pub sign-numbers : (s : ℤ) → Compared w first end start other (Comparison.Sign s) → SignNumber w first end start other 0 (toZ w8 (ofZ w8 s))
-  sign-numbers s f = go (tried (compareLines w first end start other)) refl (f .answer)
-    where
-      go : (k : Checked) → tried (compareLines w first end start other) ≡ k
-          → Comparison.Sign s ≡ decided k (Comparison.Sign (sign w first end start other)) Comparison.Refused
-          → SignNumber w first end start other 0 (toZ w8 (ofZ w8 s))
-      go Passed z x =
-          let y : s ≡ sign w first end start other = cc in
-          record { refusal = rw z; sign-is = rw (z, y) (sign-read (sign-is w first end start other)) }
-      go (Refused number) z x = let b : _≡_ {A = ℕ} 0 1 = cc in absurd (omega arith)
+  pub comparison-numbers : (r : Comparison) → Compared w first end start other r
+      → ComparisonNumbers w first end start other (numberOf (comparisonChecked r)) (signOf r) (commonOf r)
+  comparison-numbers r f =
+      let lines = compareLines w first end start other in
+      let result : Comparison = orderOf w first end start other in
+      let refusal : ℕ → Comparison = λ i. Comparison.Refused i in
+      record {
+        refusal = ap (λ t. numberOf (comparisonChecked t)) (f .answer) ∙ reading (λ t. numberOf (comparisonChecked t)) result refusal (tried lines);
+        sign-is = ap signOf (f .answer) ∙ reading signOf result refusal (tried lines);
+        common-is = ap commonOf (f .answer) ∙ reading commonOf result refusal (tried lines);
+      }
 
-  pub sign-refused : (m : ℕ) → Compared w first end start other (Comparison.Refused m) → SignNumber w first end start other m (pos 0)
-  sign-refused m f = go (tried (compareLines w first end start other)) refl (f .answer)
+  -- the number is at most the length
+  pub comparison-small : (s : ℤ) (n : ℕ) → Compared w first end start other (Comparison.Order s n) → (n ≤ mostLetters) × (toZ w8 (ofZ w8 s) ≡ s)
+  comparison-small s n f = go (tried (compareLines w first end start other)) refl (f .answer)
     where
       go : (k : Checked) → tried (compareLines w first end start other) ≡ k
-          → Comparison.Refused m ≡ decided k (Comparison.Sign (sign w first end start other)) Comparison.Refused
-          → SignNumber w first end start other m (pos 0)
-      go Passed z x = let b : _≡_ {A = ℕ} 0 1 = cc in absurd (omega arith)
-      go (Refused number) z x = let y : m ≡ number = cc in record { refusal = rw (z, y); sign-is = rw z }
+          → Comparison.Order s n ≡ decided k (orderOf w first end start other) Comparison.Refused → (n ≤ mostLetters) × (toZ w8 (ofZ w8 s) ≡ s)
+      go Passed z x =
+          let p : n ≡ commonWithin w first end start other = ap commonOf x in
+          let q : s ≡ sign w first end start other = ap signOf x in
+          (omega (arith, p, common-within-short w first end start other, accepted w _ z .short), rw q (sign-read (sign-is w first end start other)))
+      go (Refused number) z x = let b : _≡_ {A = ℕ} 0 1 = cc in absurd (omega arith)

@@ -6,7 +6,7 @@ use mathlib.Core.List.{List}
 use Prim.Native.Nat.{ℕ, _*_, _<_}
 use lib.ListN.{length, getD}
 use lib.IntN.{ℤ, pos}
-use Rattle.words.specs.Words.{isInverseLyndon, sign}
+use Rattle.words.specs.Words.{isInverseLyndon, sign, commonWithin}
 use Rattle.words.specs.Factorizations.{failingLength, prefixLength, borderLength}
 use Rattle.words.specs.Separated.{separatedIcflEnds, separatedBreaks, separatedCflInEnds, separatedTable}
 use Rattle.buffers.specs.Buffers.{cleared, written}
@@ -59,9 +59,10 @@ CflInNumbers w ends r count ends′ = FilledNumbers (cflInLines w (length ends))
 abbrev pub TableNumbers : List ℕ → List ℕ → ℕ → ℕ → List ℕ → Type 0
 TableNumbers w out r count out′ = FilledNumbers (tableLines w (length out)) (length w) (separatedTable w) out r count out′
 
-pub record SignNumber (w : List ℕ) (first end start other r : ℕ) (s : ℤ) : Type 0 where
+pub record ComparisonNumbers (w : List ℕ) (first end start other r : ℕ) (s : ℤ) (common : ℕ) : Type 0 where
   pub refusal : r ≡ numberOf (tried (compareLines w first end start other))
   pub sign-is : s ≡ sign w first end start other unless compareLines w first end start other then (λ number. pos 0)
+  pub common-is : common ≡ commonWithin w first end start other unless compareLines w first end start other then (λ number. 0)
 
 -- the part's places in the record
 pub record FactorNumbers (w es : List ℕ) (k r first end : ℕ) : Type 0 where

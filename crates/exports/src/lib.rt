@@ -8,7 +8,7 @@ use icfl::CountedBreaks;
 use summary::Summary;
 ghost use mathlib.Core.Path.{_≡_};
 ghost use Rattle.summary.specs.Summary.{Summarized};
-ghost use Rattle.exports.specs.Exports.{Small, replyOf, TestNumbers, IcflNumbers, BreaksNumbers, CflInNumbers, TableNumbers, SignNumber, FactorNumbers};
+ghost use Rattle.exports.specs.Exports.{Small, replyOf, TestNumbers, IcflNumbers, BreaksNumbers, CflInNumbers, TableNumbers, ComparisonNumbers, FactorNumbers};
 
 /// A count or a refusal, as two numbers.
 pub struct Reply {
@@ -132,17 +132,20 @@ pub extern "C" fn metsroeb_compare(
     start: usize,
     other: usize,
     sign: &mut i8,
+    common: &mut u16,
 ) -> u8
-    ensures { λ r. ⌜ SignNumber (now (word .entry)) first end start other r (now (sign .exit)) ⌝ }
+    ensures { λ r. ⌜ ComparisonNumbers (now (word .entry)) first end start other r (now (sign .exit)) (now (common .exit)) ⌝ }
 {
     let answer = compare::compare_suffixes(word, first, end, start, other);
     match answer {
-        Comparison::Sign(s) => {
+        Comparison::Order { sign: s, common: n } => {
             *sign = s;
+            *common = n as u16;
             0
         }
         Comparison::Refused(e) => {
             *sign = 0;
+            *common = 0;
             e
         }
     }

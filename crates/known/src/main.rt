@@ -1,6 +1,7 @@
 //! Prints what paper 01 and the requests say of single records, as the calls answer it. The numbers that must come are the papers', and stand in `stdout`;
 //! the file `args` has the records A to K.
 mod breaks; // the piece cut with its breaks
+mod comparisons; // two starts: the sign, and how far they agree
 mod marks; // records with marks
 mod printing; // lists of numbers, refusals and answers
 mod refusals; // the refusals of every call
@@ -8,7 +9,7 @@ mod refusals; // the refusals of every call
 use breaks::print_joins;
 use breaks::print_room_for_breaks;
 use checks::MOST;
-use compare::Comparison;
+use comparisons::print_comparisons;
 use extension::Extension;
 use libc::STDOUT_FILENO;
 use marks::print_marks;
@@ -65,21 +66,6 @@ fn print_test(name: &[u8], word: &[u8]) {
     }
 }
 
-// The sign of two starts in a range; none of these is refused.
-fn print_sign(name: &[u8], word: &[u8], first: usize, end: usize, start: usize, other: usize) {
-    let sign = match compare::compare_suffixes(word, first, end, start, other) {
-        Comparison::Sign(sign) => sign,
-        Comparison::Refused(_) => 0,
-    };
-    io::write_all(STDOUT_FILENO, name);
-    if sign < 0 {
-        io::write_all(STDOUT_FILENO, b"-1\n");
-    }
-    if 0 < sign {
-        io::write_all(STDOUT_FILENO, b"+1\n");
-    }
-}
-
 // The start table of H.
 fn print_starts() {
     let mut lengths = [0u16; 9];
@@ -93,30 +79,7 @@ fn print_room() {
     let mut one = [0u16; 1];
     print_pieces(b"\nH with 2 entries pieces=", b"cbabacbac", &mut two);
     print_pieces(b"\nH with 1 entry pieces=", b"cbabacbac", &mut one);
-}
-
-// Signs of H, of a range that is not whole pieces, and of one with marks in it, which are the largest letters there.
-fn print_signs() {
-    print_sign(b"\nH over 0 to 9, 0 and 5: ", b"cbabacbac", 0, 9, 0, 5);
-    print_sign(b"H over 5 to 9, 5 and 8: ", b"cbabacbac", 5, 9, 5, 8);
-    print_sign(b"bba over 0 to 2, 0 and 1: ", b"bba", 0, 2, 0, 1);
-    print_sign(b"bba over 0 to 3, 0 and 1: ", b"bba", 0, 3, 0, 1);
-    print_sign(
-        b"Two marks, a over 0 to 2, 0 and 1: ",
-        b"\xff\xffa",
-        0,
-        2,
-        0,
-        1,
-    );
-    print_sign(
-        b"Two marks, a over 0 to 3, 0 and 1: ",
-        b"\xff\xffa",
-        0,
-        3,
-        0,
-        1,
-    );
+    io::write_all(STDOUT_FILENO, b"\n");
 }
 
 // The table, what is said of H and I and of ranges, breaks, marks, and the refusals of a record with a mark, at the greatest length and one above it.
@@ -126,7 +89,7 @@ fn main() {
     print_test(b"\nH test=", b"cbabacbac");
     print_test(b"\nI test=", b"cbabacaacbabacbac");
     print_room();
-    print_signs();
+    print_comparisons();
     print_joins();
     print_room_for_breaks();
     print_marks();

@@ -43,7 +43,7 @@ fn print_lent_refusals(word: &[u8]) {
 pub fn print_refusals(name: &[u8], word: &[u8], ends: &[u16]) {
     let compared = match compare::compare_suffixes(word, 0, word.len(), 0, 0) {
         Comparison::Refused(number) => number,
-        Comparison::Sign(_) => 0,
+        Comparison::Order { .. } => 0,
     };
     let mut told: u8 = 0;
     reading::factor_at(word, ends, 0, &mut told);

@@ -49,6 +49,14 @@ pub fn tail(word: &[u8], from: usize) -> &[u8] {
     &word[from..]
 }
 
+/// The word from a place to an end, empty where there is no such part.
+pub fn part(word: &[u8], from: usize, end: usize) -> &[u8] {
+    if end < from || word.len() < end {
+        return &word[0..0];
+    }
+    &word[from..end]
+}
+
 /// The first n entries, all where there are fewer.
 pub fn front(list: &[u16], n: usize) -> &[u16] {
     if list.len() < n {

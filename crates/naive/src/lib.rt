@@ -1,7 +1,7 @@
 //! A second implementation of the calls, by the definitions and not by the proved algorithms, for the program `cases` to compare with. Every
 //! function is safe and ends for all arguments; what it answers is not proved.
 mod access; // letters and entries at a place, sums and differences, with no demand on the caller
-mod order; // both orders, letter by letter
+mod order; // both orders, letter by letter, and the comparison in two ways
 mod extension; // the test: every suffix, every length
 mod strict; // the strict cut and the start table by the longest anti-Lyndon prefix
 mod suffixes; // the same two by comparing suffixes of the whole word
@@ -19,6 +19,7 @@ pub use access::entry;
 pub use access::front;
 pub use access::letter;
 pub use access::minus;
+pub use access::part;
 pub use access::plus;
 pub use access::set_letter;
 pub use access::store;
@@ -27,8 +28,10 @@ pub use access::tail;
 pub use calls::Call;
 pub use calls::Room;
 pub use calls::needed;
+pub use order::Compared;
 pub use order::common;
-pub use order::sign;
+pub use order::compare_parts;
+pub use order::compare_words;
 pub use parts::in_band;
 pub use parts::latest;
 pub use parts::longest;

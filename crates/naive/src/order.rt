@@ -1,4 +1,5 @@
-//! The two orders, letter by letter, on the parts of a word from a start to a common end.
+//! The two orders, letter by letter, on the parts of a word from a start to a common end. The comparison of two such parts, and of two words by their
+//! longest common prefix.
 use super::access::letter;
 use super::access::plus;
 
@@ -46,15 +47,29 @@ pub fn natural_less(word: &[u8], end: usize, i: usize, j: usize) -> bool {
     before(word, end, i, j, false)
 }
 
-/// The sign of the comparison: −1, 0 or +1.
-pub fn sign(word: &[u8], end: usize, i: usize, j: usize) -> i8 {
-    if inverse_before(word, end, i, j) {
+/// What the comparison answers: −1, 0 or +1, and how many leading letters are equal.
+pub struct Compared {
+    pub sign: i8,
+    pub common: usize,
+}
+
+// −1 where the first of two words comes before the second, +1 where the second comes before the first, else 0.
+fn sign(before: bool, after: bool) -> i8 {
+    if before {
         return -1;
     }
-    if inverse_before(word, end, j, i) {
-        return 1;
+    if after { 1 } else { 0 }
+}
+
+/// The comparison of the parts from i and from j.
+pub fn compare_parts(word: &[u8], end: usize, i: usize, j: usize) -> Compared {
+    Compared {
+        sign: sign(
+            inverse_before(word, end, i, j),
+            inverse_before(word, end, j, i),
+        ),
+        common: agreeing(word, end, i, j),
     }
-    0
 }
 
 // Whether x and y have the same first n letters.
@@ -81,4 +96,21 @@ pub fn common(x: &[u8], y: &[u8]) -> usize {
         n -= 1;
     }
     0
+}
+
+// Whether x comes before y in the inverse order, where n is the length of their longest common prefix.
+fn word_before(x: &[u8], y: &[u8], n: usize) -> bool {
+    if y.len() <= n {
+        return false;
+    }
+    x.len() <= n || letter(y, n) < letter(x, n)
+}
+
+/// The comparison of two words.
+pub fn compare_words(x: &[u8], y: &[u8]) -> Compared {
+    let n = common(x, y);
+    Compared {
+        sign: sign(word_before(x, y, n), word_before(y, x, n)),
+        common: n,
+    }
 }

@@ -1,6 +1,5 @@
--- What the code reads of two words tells whether u comes before v in the inverse order: a letter where they differ, or else their lengths. First
--- letters that differ, and a single letter as the first word, are cases of it. And whether a letter joins v (none-joins, same-joins,
--- other-joins).
+-- What the code reads of two words tells whether u comes before v in the inverse order: first letters that differ (first-decide), or else what follows
+-- them (rest-decides). And whether a letter joins v (none-joins, same-joins, other-joins).
 use mathlib.Core.Path.{_≡_, refl, sym, _∙_}
 use mathlib.Core.List.{List, [], _∷_}
 use mathlib.Core.Bool.{Bool, false, not, _&&_}
@@ -10,8 +9,9 @@ use lib.ListN.{length, getD}
 use native.Mathlib.Decide.{ℕ-discrete}
 use borrow.Author.Tests.{le-ltb}
 use lib.Dec.{ltb, eqb}
+use Rattle.buffers.proofs.PartLaws.{rest, rest-is}
 use Rattle.words.specs.Words.{_≺_, mismatch}
-use Rattle.words.specs.orders.InverseLaws.{_≼_, won, pre, ≼-antisym, ≺-≼, ≺-irrefl}
+use Rattle.words.specs.orders.InverseLaws.{_≼_, won, pre, ≼-cons, ≼-antisym, ≺-≼, ≺-cons, ≺-irrefl, not-≺-≼}
 use Rattle.words.specs.orders.Decisions.{Decides, holds, fails, leb-test, eqb-test, decides-false}
 use Rattle.words.specs.Separated.{separator}
 use Rattle.words.specs.orders.CommonLength.{Agree, matched-none, matched-more, agree-sym, agree-⊑, agree-shorter, agree-≪, agree-≪-sym}
@@ -48,6 +48,14 @@ agree-none u v d = record { matched = matched-none u v; differ = d }
 
 pub first-decide : (u v : List ℕ) → 0 < length u → 0 < length v → ¬ (getD v 0 0 ≡ getD u 0 0) → Decides (u ≺ v) (ltb (getD v 0 0) (getD u 0 0))
 first-decide u v p q d = letters-decide (agree-none u v (λ h k e. d (sym e))) (omega arith)
+
+-- equal first letters: what follows them decides
+pub rest-decides : (u v : List ℕ) {t : Bool} → 0 < length u → 0 < length v → getD v 0 0 ≡ getD u 0 0 → Decides (rest 1 u ≺ rest 1 v) t → Decides (u ≺ v) t
+rest-decides [] v p q e d = absurd (omega arith)
+rest-decides (a ∷ u) [] p q e d = absurd (omega arith)
+rest-decides (a ∷ u) (b ∷ v) p q e d =
+    let same : b ≡ a = e in
+    rw same (decided-by (≺-cons a) (λ h. not-before (≼-cons a (not-≺-≼ u v h))) (rw (rest-is 1 (a ∷ u), rest-is 1 (b ∷ v)) at d))
 
 pub none-after : (u v : List ℕ) → length v ≡ 0 → Decides (u ≺ v) false
 none-after u v z = fails (not-before (pre (agree-⊑ (agree-none v u (λ h k. absurd (omega arith))) (omega arith))))

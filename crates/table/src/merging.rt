@@ -9,8 +9,7 @@ ghost use Rattle.words.specs.orders.Decisions.{Decides};
 ghost use Rattle.buffers.specs.Buffers.{written};
 ghost use Rattle.table.specs.Steps.{TableRoom, NextKnown, MergedTo, BothBegin, SeparatorAlone, LetterJoins};
 
-// Whether u comes before v in the inverse order. Their first letters decide most often. The test after the common length repeats that
-// of the loop in `common_length`, so that the compiler can join them.
+// Whether u comes before v in the inverse order. Their first letters decide most often; if these are equal, what follows them does.
 fn comes_before(u: &[u8], v: &[u8]) -> bool
     requires { ⌜ BothBegin (now u) (now v) ⌝ }
     ensures { λ r. ⌜ Decides (now (u .entry) ≺ now (v .entry)) r ⌝ }
@@ -20,11 +19,8 @@ fn comes_before(u: &[u8], v: &[u8]) -> bool
     if b != a {
         return b < a;
     }
-    let l = common::common_length(u, v);
-    if l < common::shorter(u.len(), v.len()) {
-        return v[l] < u[l];
-    }
-    u.len() < v.len()
+    let order = common::compare_words(&u[1..], &v[1..]);
+    order.sign < 0
 }
 
 // Whether a letter joins the word v after it, which is a single letter if it begins with a separator. A separator joins none; it is looked
@@ -60,7 +56,8 @@ fn longest_from(word: &[u8], lengths: &[u16], i: usize, from: usize) -> usize
     j - i
 }
 
-// Entry i of the table, from the entries after it; `next` is the first of them, 0 if there is none.
+// Entry i of the table, from the entries after it; `next` is the first of them, 0 if there is none. That the first word reaches to the end is
+// asked before the loop, which a falling record then never enters.
 fn longest_at(word: &[u8], lengths: &[u16], i: usize, next: usize) -> usize
     requires { ⌜ NextKnown (now word) (now lengths) i next ⌝ }
     ensures { λ r. ⌜ r ≡ getD (separatedTable (now (word .entry))) i 0 ⌝ }
@@ -69,7 +66,11 @@ fn longest_at(word: &[u8], lengths: &[u16], i: usize, next: usize) -> usize
     if !letter_joins(word[i], &word[j..j + next]) {
         return 1;
     }
-    longest_from(word, lengths, i, j + next)
+    let from = j + next;
+    if from == word.len() {
+        return from - i;
+    }
+    longest_from(word, lengths, i, from)
 }
 
 // Writes the table from its last entry on. The entry just written is handed on, the others are read again.

@@ -1,18 +1,79 @@
-//! The comparison, and how far two words agree.
+//! The comparison, and that of two words alone with how far they agree.
 use compare::Comparison;
+use naive::Compared;
 use naive::minus;
+use naive::part;
 use naive::plus;
 use samples::Run;
 use samples::about;
 use samples::draw;
 
-// Whether the comparison answers as the second implementation.
+fn same(a: Compared, b: Compared) -> bool {
+    (a.sign == b.sign) & (a.common == b.common)
+}
+
+// The comparison's answer, 0 in both numbers where it is refused.
+fn compared(word: &[u8], first: usize, end: usize, start: usize, other: usize) -> Compared {
+    match compare::compare_suffixes(word, first, end, start, other) {
+        Comparison::Order { sign, common } => Compared { sign, common },
+        Comparison::Refused(_) => Compared { sign: 0, common: 0 },
+    }
+}
+
+// Whether an answer is that of the second implementation, letter by letter and by the longest common prefix.
+fn is_naive(found: Compared, word: &[u8], end: usize, start: usize, other: usize) -> bool {
+    let x = part(word, start, end);
+    let y = part(word, other, end);
+    same(found, naive::compare_parts(word, end, start, other))
+        & same(found, naive::compare_words(x, y))
+}
+
+fn opposite(sign: i8) -> i8 {
+    match sign {
+        1 => -1,
+        -1 => 1,
+        _ => sign,
+    }
+}
+
+// Whether the two starts changed about have the opposite sign and the same number.
+fn is_turned(
+    found: Compared,
+    word: &[u8],
+    first: usize,
+    end: usize,
+    start: usize,
+    other: usize,
+) -> bool {
+    let turned = compared(word, first, end, other, start);
+    (turned.sign == opposite(found.sign)) & (turned.common == found.common)
+}
+
+// Whether the number is the one to the record's end, or what the range has from the later start on, if that is less.
+fn is_cut_off(found: Compared, word: &[u8], end: usize, start: usize, other: usize) -> bool {
+    let whole = compared(word, 0, word.len(), start, other);
+    let later = if start < other { other } else { start };
+    let left = minus(end, later);
+    let least = if left < whole.common {
+        left
+    } else {
+        whole.common
+    };
+    found.common == least
+}
+
+// Whether the comparison answers as the second implementation, and as its other answers make it.
 fn comparison_is(word: &[u8], first: usize, end: usize, start: usize, other: usize) -> bool {
-    let answer = compare::compare_suffixes(word, first, end, start, other);
     let refused = naive::range_refusal(word.len(), first, end, start, other);
-    match answer {
+    match compare::compare_suffixes(word, first, end, start, other) {
         Comparison::Refused(number) => (refused != 0) & (number == refused),
-        Comparison::Sign(sign) => (refused == 0) & (sign == naive::sign(word, end, start, other)),
+        Comparison::Order { sign, common } => {
+            let found = Compared { sign, common };
+            (refused == 0)
+                & is_naive(found, word, end, start, other)
+                & is_cut_off(found, word, end, start, other)
+                & is_turned(found, word, first, end, start, other)
+        }
     }
 }
 
@@ -48,19 +109,23 @@ pub fn agrees_at_limits(word: &[u8], code: usize) -> bool {
     comparison_is(word, first, end, start, other)
 }
 
-// A part at random.
-fn random_part<'a>(word: &'a [u8], run: &mut Run) -> &'a [u8] {
-    let from = naive::tail(word, draw(run, word.len()));
-    let size = draw(run, plus(from.len(), 1));
-    if from.len() < size {
-        return from;
-    }
-    &from[0..size]
+// A part at random that begins at a place.
+fn random_part<'a>(word: &'a [u8], from: usize, run: &mut Run) -> &'a [u8] {
+    let left = minus(word.len(), from);
+    part(word, from, plus(from, draw(run, plus(left, 1))))
 }
 
-/// How far two parts at random agree.
-pub fn common_agrees(word: &[u8], run: &mut Run) -> bool {
-    let x = random_part(word, run);
-    let y = random_part(word, run);
-    common::common_length(x, y) == naive::common(x, y)
+/// How far two parts at random agree, and how they compare; from case 2 on both begin at one place.
+pub fn words_agree(word: &[u8], code: usize, run: &mut Run) -> bool {
+    let from = draw(run, word.len());
+    let x = random_part(word, from, run);
+    let other = draw(run, word.len());
+    let y = random_part(word, if code < 2 { other } else { from }, run);
+    let order = common::compare_words(x, y);
+    let found = Compared {
+        sign: order.sign,
+        common: order.common,
+    };
+    let want = naive::compare_words(x, y);
+    same(found, want) & (common::common_length(x, y) == want.common)
 }

@@ -31,7 +31,7 @@ fn agrees(
     }
     match call {
         Call::Compare => comparing::agrees(word, list, code, run),
-        Call::Common => comparing::common_agrees(word, run),
+        Call::Common => comparing::words_agree(word, code, run),
         Call::Part => parting::part_agrees(word, list, code),
         Call::Summary => parting::summary_agrees(word, list),
         _ => lending::agrees(call, word, list, breaks),

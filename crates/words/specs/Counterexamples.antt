@@ -1,15 +1,15 @@
 -- THEOREMS other-division, strict-is-other, any-range: three of paper 01's "Cuts that a potter would accept and we do not", by its own records. The fourth,
--- the longest r or joining only below |r|, is in the rows of Examples that tell these apart.
+-- the longest r or joining only below |r|, is in the rows of Examples that tell these apart. THEOREM common-not-compatible: demand 3 holds of the sign alone.
 use mathlib.Core.Path.{_≡_, refl, ap}
 use mathlib.Core.Bool.{true}
-use mathlib.Core.List.{List, [], _∷_, flatten}
+use mathlib.Core.List.{List, [], _∷_, flatten, List·Memᴰ·head}
 use Prim.Native.Nat.{ℕ, _≤_}
 use native.Mathlib.Omega.{arith}
 use lib.ListN.{length, getD}
 use lib.IntN.{ℤ, pos, negsuc}
-use Rattle.words.specs.Words.{_≪_, here, there, InverseLyndon, isInverseLyndon, sign}
-use Rattle.words.specs.Factorizations.{icfl, cflIn, endsFrom}
-use Rattle.words.specs.Statements.{end, by, Linked, none, more, Compatible}
+use Rattle.words.specs.Words.{_≪_, here, there, InverseLyndon, isInverseLyndon, commonLength, sign, commonWithin}
+use Rattle.words.specs.Factorizations.{icfl, icflEnds, cflIn, endsFrom}
+use Rattle.words.specs.Statements.{end, by, Linked, none, more, WholePieces, Compatible}
 use Rattle.words.specs.Examples.{a, b, c, d}
 use Rattle.words.specs.orders.Decisions.{decides-true}
 use Rattle.words.specs.lyndon.WordTests.{inverse-lyndon-test}
@@ -71,4 +71,18 @@ any-range h =
     let same : sign (b ∷ b ∷ a ∷ []) 0 2 0 1 ≡ sign (b ∷ b ∷ a ∷ []) 0 3 0 1 =
     h (b ∷ b ∷ a ∷ []) 0 2 0 1 (omega arith) (omega arith) (omega arith) (omega arith) (omega arith) (λ z. omega arith) in
     let z : _≡_ {A = ℕ} 1 0 = ap aboveZero same in
+    absurd (omega arith)
+
+-- ---- demand 3 "speaks of the order only": with how far the starts agree (request 104) it would be false. Over the first piece of G, starts 0 and 3 agree for 3
+-- letters, and to the record's end for 5.
+
+abbrev G : List ℕ
+G = b ∷ b ∷ a ∷ b ∷ b ∷ a ∷ b ∷ b ∷ b ∷ []
+
+pub common-not-compatible : ¬ ((w : List ℕ) → Compatible (WholePieces (icflEnds w)) (length w) (commonWithin w))
+unfolding icflEnds commonLength
+common-not-compatible h =
+    let same : commonWithin G 0 6 0 3 ≡ commonWithin G 0 9 0 3 =
+    h G 0 6 0 3 (List·Memᴰ·head refl, List·Memᴰ·head refl) (omega arith) (omega arith) (omega arith) (omega arith) (λ z. omega arith) in
+    let z : _≡_ {A = ℕ} 3 5 = same in
     absurd (omega arith)

@@ -1,11 +1,12 @@
 -- THEOREM examples. The records of paper 01 with known answers, computed from the definitions: one table, one theorem.
 -- Beside paper 01's rows: baababb tells "join at |r|" from "join below |r|"; the word of 31 letters joins twice, one join
--- inside the other; aaab and cbabcbad tell the shortest r from the longest. Breaks (request 102) of I, of these, and of a falling record.
+-- inside the other; aaab and cbabcbad tell the shortest r from the longest. Breaks (request 102) of I, of these, and of a falling record. Comparisons with how
+-- far the starts agree (request 104): over the first piece of G, and past its end; a start with itself.
 use mathlib.Core.Path.{_≡_, refl}
 use mathlib.Core.List.{List, [], _∷_, map}
 use Prim.Native.Nat.{ℕ}
 use lib.IntN.{ℤ, pos, negsuc}
-use Rattle.words.specs.Words.{sign}
+use Rattle.words.specs.Words.{commonLength, sign, commonWithin}
 use Rattle.words.specs.Factorizations.{failingLength, prefixLength, borderLength, icflEnds, icflBreaks, cflInEnds, lyndonTable}
 use Rattle.words.specs.declared.Fate.the-variants.{Kept, Joined}
 use Rattle.words.specs.declared.Break.{Break}
@@ -22,15 +23,15 @@ pub data Answer : Type 0 where
   lengths : List ℕ → Answer
   fails : (failing prefix border : ℕ) → Answer
   breaks : List Break → Answer
-  signed : ℤ → Answer
+  signed : ℤ → (common : ℕ) → Answer
 
 unfoldable pub answer : Question → Answer
-unfolding icflEnds icflBreaks cflInEnds lyndonTable failingLength prefixLength borderLength sign
+unfolding icflEnds icflBreaks cflInEnds lyndonTable failingLength prefixLength borderLength commonLength sign
 answer (cuts w) = ends (icflEnds w) (cflInEnds w)
 answer (table w) = lengths (lyndonTable w)
 answer (test w) = fails (failingLength w) (prefixLength w) (borderLength w)
 answer (reasons w) = breaks (icflBreaks w)
-answer (comparison w first end start other) = signed (sign w first end start other)
+answer (comparison w first end start other) = signed (sign w first end start other) (commonWithin w first end start other)
 
 -- ---- the table: letters stand for their ASCII codes
 
@@ -91,10 +92,14 @@ rows =
     ∷ (reasons twoJoins gives breaks (joinedAt 14 0 13 0 ∷ joinedAt 22 14 6 1 ∷ keptAt 27 22 3 b c ∷ []))
     ∷ (reasons (a ∷ a ∷ a ∷ b ∷ []) gives breaks (keptAt 3 0 0 a b ∷ []))
     ∷ (reasons (b ∷ a ∷ b ∷ a ∷ []) gives breaks [])
-    ∷ (comparison (c ∷ b ∷ a ∷ b ∷ a ∷ c ∷ b ∷ a ∷ c ∷ []) 0 9 0 5 gives signed (pos 1))
-    ∷ (comparison (c ∷ b ∷ a ∷ b ∷ a ∷ c ∷ b ∷ a ∷ c ∷ []) 5 9 5 8 gives signed (pos 1))
-    ∷ (comparison (b ∷ b ∷ a ∷ []) 0 2 0 1 gives signed (pos 1))
-    ∷ (comparison (b ∷ b ∷ a ∷ []) 0 3 0 1 gives signed (negsuc 0))
+    ∷ (comparison (c ∷ b ∷ a ∷ b ∷ a ∷ c ∷ b ∷ a ∷ c ∷ []) 0 9 0 5 gives signed (pos 1) 3)  -- H
+    ∷ (comparison (c ∷ b ∷ a ∷ b ∷ a ∷ c ∷ b ∷ a ∷ c ∷ []) 5 9 5 8 gives signed (pos 1) 1)
+    ∷ (comparison (c ∷ b ∷ a ∷ b ∷ a ∷ c ∷ b ∷ a ∷ c ∷ []) 5 9 8 5 gives signed (negsuc 0) 1)
+    ∷ (comparison (b ∷ b ∷ a ∷ []) 0 2 0 1 gives signed (pos 1) 1)
+    ∷ (comparison (b ∷ b ∷ a ∷ []) 0 3 0 1 gives signed (negsuc 0) 1)
+    ∷ (comparison (b ∷ b ∷ a ∷ b ∷ b ∷ a ∷ b ∷ b ∷ b ∷ []) 0 6 0 3 gives signed (pos 1) 3)  -- G
+    ∷ (comparison (b ∷ b ∷ a ∷ b ∷ b ∷ a ∷ b ∷ b ∷ b ∷ []) 0 9 0 3 gives signed (pos 1) 5)
+    ∷ (comparison (b ∷ b ∷ a ∷ b ∷ b ∷ a ∷ b ∷ b ∷ b ∷ []) 0 6 2 2 gives signed (pos 0) 4)
     ∷ []
 
 pub examples : map (λ r. answer (question r)) rows ≡ map expected rows

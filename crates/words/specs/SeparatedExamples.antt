@@ -3,7 +3,8 @@
 use mathlib.Core.Path.{_≡_, refl}
 use mathlib.Core.List.{List, [], _∷_, _++_, map}
 use Prim.Native.Nat.{ℕ}
-use Rattle.words.specs.Words.{sign}
+use lib.IntN.{pos, negsuc}
+use Rattle.words.specs.Words.{commonLength, sign, commonWithin}
 use Rattle.words.specs.Factorizations.{failingLength, prefixLength, borderLength}
 use Rattle.words.specs.Separated.{separatedIcflEnds, separatedCflInEnds, separatedTable, separatedBreaks}
 use Rattle.words.specs.Examples.{
@@ -32,12 +33,12 @@ use Rattle.words.specs.Examples.{
 }
 
 unfoldable pub separatedAnswer : Question → Answer
-unfolding separatedIcflEnds separatedCflInEnds separatedTable separatedBreaks failingLength prefixLength borderLength sign
+unfolding separatedIcflEnds separatedCflInEnds separatedTable separatedBreaks failingLength prefixLength borderLength commonLength sign
 separatedAnswer (cuts w) = ends (separatedIcflEnds w) (separatedCflInEnds w)
 separatedAnswer (table w) = lengths (separatedTable w)
 separatedAnswer (test w) = fails (failingLength w) (prefixLength w) (borderLength w)
 separatedAnswer (reasons w) = breaks (separatedBreaks w)
-separatedAnswer (comparison w first end start other) = signed (sign w first end start other)
+separatedAnswer (comparison w first end start other) = signed (sign w first end start other) (commonWithin w first end start other)
 
 abbrev m : ℕ
 m = 255
@@ -55,6 +56,8 @@ separatedRows =
     ∷ (table (m ∷ []) gives lengths (1 ∷ []))
     ∷ (table (m ∷ m ∷ a ∷ []) gives lengths (1 ∷ 1 ∷ 1 ∷ []))
     ∷ (table (b ∷ a ∷ m ∷ b ∷ a ∷ []) gives lengths (2 ∷ 1 ∷ 1 ∷ 2 ∷ 1 ∷ []))
+    ∷ (comparison (m ∷ m ∷ a ∷ []) 0 2 0 1 gives signed (pos 1) 1)
+    ∷ (comparison (m ∷ m ∷ a ∷ []) 0 3 0 1 gives signed (negsuc 0) 1)
     ∷ (reasons (m ∷ m ∷ m ∷ []) gives breaks [])
     ∷ (reasons (b ∷ a ∷ m ∷ b ∷ a ∷ []) gives breaks [])
     ∷ (reasons (m ∷ a ∷ b ∷ m ∷ []) gives breaks (keptAt 2 1 0 a b ∷ []))

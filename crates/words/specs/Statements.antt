@@ -1,9 +1,9 @@
--- DEFINITIONS. What is said of a list of words, of one step of the piece cut, of its breaks, and demand 3 of a word. The product of a list of words is the
--- library's flatten.
+-- DEFINITIONS. What is said of a list of words, of one step of the piece cut, of its breaks, of two starts that agree, and demand 3 of a word. The product of a
+-- list of words is the library's flatten.
 use mathlib.Core.Path.{_≡_}
 use mathlib.Core.Logic.{_⊎_}
 use mathlib.Core.List.{List, [], _∷_, _++_, flatten, List·Memᴰ}
-use Prim.Native.Nat.{ℕ, suc, _+_, _-_, _≤_, _<_}
+use Prim.Native.Nat.{ℕ, suc, _+_, _-_, _≤_, _<_, max}
 use lib.ListN.{length, take, drop, getD}
 use lib.Seq.{slice}
 use Rattle.words.specs.Words.{_≪_, _⊑_, _<ₗ_, _≺_, InverseLyndon, AntiLyndon, sign}
@@ -99,6 +99,20 @@ pub record BreaksOf (w : List ℕ) (bs : List Break) : Type 0 where
       → (a ≡ getD w (k .begun + k .border) 0) × (b ≡ getD w (k .place + k .border) 0) × (a < b)
   -- "or joined with the number |r| less the joined piece's length"
   pub joined : (b : Break) (s : ℕ) → List·Memᴰ b bs → b .fate ≡ Joined s → JoinedTo w (b .place) (b .border) s
+
+-- ---- how far two starts agree before end (request 104)
+
+-- n letters from both starts on lie before end, and are equal
+pub record Shared (w : List ℕ) (end start other n : ℕ) : Type 0 where
+  pub inside : max start other + n ≤ end
+  pub equal : (t : ℕ) → t < n → getD w (start + t) 0 ≡ getD w (other + t) 0
+
+-- "the number of equal leading bytes before the stretch ends for either of them"
+pub record SharedMost (w : List ℕ) (end start other n : ℕ) : Type 0 where
+  pub shared : Shared w end start other n
+  -- the later remainder ends there, or the next two letters differ
+  pub parts : (max start other + n ≡ end) ⊎ (¬ (getD w (start + n) 0 ≡ getD w (other + n) 0))
+  pub largest : (m : ℕ) → Shared w end start other m → m ≤ n
 
 -- ---- ends
 

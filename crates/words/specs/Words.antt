@@ -91,11 +91,18 @@ commonLength [] y = 0
 commonLength (a ∷ x) [] = 0
 commonLength (a ∷ x) (b ∷ y) = elim (eqb a b) [ true ↦ suc (commonLength x y) | false ↦ 0 ]
 
+-- the remainder at a start of the stretch from first to end
+abbrev pub remainder : List ℕ → ℕ → ℕ → ℕ → List ℕ
+remainder w first end start = drop (start - first) (slice first end w)
+
 -- the comparison: "It compares the two remainders of the stretch in the inverse order: −1 if the first start's comes first,
--- 0 if the starts are equal, +1 otherwise." The stretch is slice first end w.
+-- 0 if the starts are equal, +1 otherwise."
 unfoldable pub sign : List ℕ → ℕ → ℕ → ℕ → ℕ → ℤ
 unfolding isInverseBefore
 sign w first end start other =
-    let u : List ℕ = slice first end w in
-    let before : Bool = isInverseBefore (drop (start - first) u) (drop (other - first) u) in
+    let before : Bool = isInverseBefore (remainder w first end start) (remainder w first end other) in
     elim (eqb start other) [ true ↦ pos 0 | false ↦ elim before [ true ↦ negsuc 0 | false ↦ pos 1 ] ]
+
+-- request 104: "the number of equal leading bytes before the stretch ends for either of them"
+abbrev pub commonWithin : List ℕ → ℕ → ℕ → ℕ → ℕ → ℕ
+commonWithin w first end start other = commonLength (remainder w first end start) (remainder w first end other)

@@ -5,6 +5,7 @@
 --   CommonLength    how far two words agree, and how they compare there
 --   SignLaws        what the sign over a range says (sign-is)
 --   WordSigns       it is the sign of two parts of the word (sign-parts)
+--   CommonWithin    how far two starts of a range agree (common-within-is)
 pub mod Decisions
 pub mod PrefixLaws
 pub mod MismatchLaws
@@ -14,3 +15,4 @@ pub mod OrderTests
 pub mod CommonLength
 pub mod SignLaws
 pub mod WordSigns
+pub mod CommonWithin

@@ -230,7 +230,8 @@ pub fn lyndon_table(record: &[u8], lengths: &mut [u16]) -> Result<usize, u8> {
     Ok(n)
 }
 
-pub fn compare_suffixes(record: &[u8], first: usize, end: usize, start: usize, other: usize) -> Result<i8, u8> {
+/// The sign, and how many leading letters are equal.
+pub fn compare_suffixes(record: &[u8], first: usize, end: usize, start: usize, other: usize) -> Result<(i8, usize), u8> {
     check_record(record)?;
     if first >= end || end > record.len() {
         return Err(5);
@@ -239,10 +240,10 @@ pub fn compare_suffixes(record: &[u8], first: usize, end: usize, start: usize, o
         return Err(6);
     }
     let (x, y) = (&record[start..end], &record[other..end]);
-    match x.iter().zip(y).find(|(a, b)| a != b) {
-        Some((a, b)) => Ok(if a > b { -1 } else { 1 }),
-        None => Ok(x.len().cmp(&y.len()) as i8),
-    }
+    Ok(match x.iter().zip(y).position(|(a, b)| a != b) {
+        Some(common) => (if x[common] > y[common] { -1 } else { 1 }, common),
+        None => (x.len().cmp(&y.len()) as i8, x.len().min(y.len())),
+    })
 }
 
 pub fn factor_at(record: &[u8], ends: &[u16], number: usize) -> Result<(u16, u16), u8> {

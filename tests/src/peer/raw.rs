@@ -100,10 +100,11 @@ pub unsafe extern "C" fn metsroeb_compare(
     start: usize,
     other: usize,
     sign: *mut i8,
+    common: *mut u16,
 ) -> u8 {
     let answer = plain::compare_suffixes(from_raw_parts(record, record_len), first, end, start, other);
-    *sign = answer.unwrap_or(0);
-    answer.err().unwrap_or(0)
+    *sign = answer.map_or(0, |(sign, _)| sign);
+    store_count(answer.map(|(_, common)| common), &mut *common)
 }
 
 #[inline(never)]

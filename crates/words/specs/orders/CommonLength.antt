@@ -1,5 +1,6 @@
 -- Laws of commonLength. It is the only number l such that the first l letters of two words are equal and both do not go on with the
--- same letter (common-agree, agree-unique); at that place they show which comes first in ⊑, ≪ and ≺, or that they are the same.
+-- same letter (common-agree, agree-unique), whichever of the two is named first (common-sym); at that place they show which comes first
+-- in ⊑, ≪ and ≺, or that they are the same.
 use mathlib.Core.Path.{_≡_, sym}
 use mathlib.Core.List.{List, [], _∷_}
 use mathlib.Core.Bool.{Bool, true, false}
@@ -65,6 +66,9 @@ agree-unique x y l g = go (common-agree x y)
     go {m} k = neither-less
         (λ h. g .differ (omega (arith, k .matched .left)) (omega (arith, k .matched .right)) (k .matched .equal l h))
         (λ h. k .differ (omega (arith, g .matched .left)) (omega (arith, g .matched .right)) (g .matched .equal m h))
+
+pub common-sym : (x y : List ℕ) → commonLength x y ≡ commonLength y x
+common-sym x y = agree-unique y x _ (agree-sym (common-agree x y))
 
 -- ---- the orders
 

@@ -16,7 +16,7 @@ pub data _≼_ (x y : List ℕ) : Type 0 where
 pub ≼-refl : (x : List ℕ) → x ≼ x
 ≼-refl x = pre (⊑-refl x)
 
-≼-cons : {x y : List ℕ} (a : ℕ) → x ≼ y → (a ∷ x) ≼ (a ∷ y)
+pub ≼-cons : {x y : List ℕ} (a : ℕ) → x ≼ y → (a ∷ x) ≼ (a ∷ y)
 ≼-cons a (won h) = won (there h)
 ≼-cons a (pre h) = pre (step h)
 
@@ -46,6 +46,10 @@ pub ≼-antisym : {x y : List ℕ} → x ≼ y → y ≼ x → x ≡ y
 pub ≺-≼ : {x y : List ℕ} → x ≺ y → x ≼ y
 ≺-≼ (prefix (proper h l)) = pre h
 ≺-≼ (mismatch h) = won h
+
+pub ≺-cons : {x y : List ℕ} (a : ℕ) → x ≺ y → (a ∷ x) ≺ (a ∷ y)
+≺-cons a (prefix (proper h l)) = prefix (proper (step h) (omega arith))
+≺-cons a (mismatch h) = mismatch (there h)
 
 pub ≺-not-≼ : {x y : List ℕ} → x ≺ y → y ≼ x → ⊥
 ≺-not-≼ (prefix (proper h l)) (won k) = ≪-not-⊑ k h

@@ -2,18 +2,12 @@
 use mathlib.Core.Path.{_≡_, ap}
 use mathlib.Core.List.{List}
 use mathlib.Core.Bool.{Bool, true, false}
-use Prim.Native.Nat.{ℕ, _-_}
-use lib.ListN.{drop}
-use lib.Seq.{slice}
+use Prim.Native.Nat.{ℕ}
 use lib.Dec.{eqb}
 use lib.IntN.{ℤ, pos, negsuc}
-use Rattle.words.specs.Words.{_≺_, sign}
+use Rattle.words.specs.Words.{_≺_, remainder, sign}
 use Rattle.words.specs.orders.Decisions.{Decides, holds, fails, eqb-test, decides-map, decides-unique}
 use Rattle.words.specs.orders.OrderTests.{inverse-before-test}
-
--- the remainder of the range from first to end that begins at start
-abbrev pub remainder : List ℕ → ℕ → ℕ → ℕ → List ℕ
-remainder w first end start = drop (start - first) (slice first end w)
 
 pub data SignOf (w : List ℕ) (first end start other : ℕ) : ℤ → Type 0 where
   before : ¬ (start ≡ other) → remainder w first end start ≺ remainder w first end other → SignOf w first end start other (negsuc 0)

@@ -7,16 +7,16 @@ use lib.ListN.{length, take, length-drop}
 use lib.Seq.{length-take-le}
 use lib.IntN.{ℤ, pos, negsuc}
 use Rattle.buffers.proofs.PartLaws.{drop-to, part, part-is}
-use Rattle.words.specs.Words.{_≺_, sign}
+use Rattle.words.specs.Words.{_≺_, remainder, sign}
 use Rattle.words.specs.orders.InverseLaws.{≺-≼, ≺-irrefl, ≺-not-≼}
-use Rattle.words.specs.orders.SignLaws.{remainder, SignOf, sign-is}
+use Rattle.words.specs.orders.SignLaws.{SignOf, sign-is}
 
 pub data SignOfWords (x y : List ℕ) : ℤ → Type 0 where
   before : x ≺ y → SignOfWords x y (negsuc 0)
   same : x ≡ y → SignOfWords x y (pos 0)
   after : y ≺ x → SignOfWords x y (pos 1)
 
-part-remainder : (w : List ℕ) (first end start : ℕ) → first ≤ start → part start end w ≡ remainder w first end start
+pub part-remainder : (w : List ℕ) (first end start : ℕ) → first ≤ start → part start end w ≡ remainder w first end start
 part-remainder w first end start l = part-is start end w ∙ sym (drop-to first start (take end w) l)
 
 pub sign-parts : (w : List ℕ) (first end start other : ℕ) {s : ℤ} → end ≤ length w → first ≤ start → start < end → first ≤ other → other < end

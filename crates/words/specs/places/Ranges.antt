@@ -6,10 +6,10 @@ use Prim.Native.Nat.{ℕ, _+_, _-_, _≤_, _<_}
 use native.Mathlib.Omega.{arith}
 use lib.ListN.{length, take, drop, length-drop, take-append-drop}
 use lib.Seq.{slice, drop-append-add, drop-append-le, take-take, take-length, length-take-le, length-slice}
-use Rattle.words.specs.Words.{sign}
+use Rattle.words.specs.Words.{remainder, sign}
 use Rattle.words.specs.orders.InverseLaws.{≺-≼, ≼-≺}
 use Rattle.words.specs.places.FirstSuffixes.{FirstSuffix, Leads, first-leads, range-before, before-range}
-use Rattle.words.specs.orders.SignLaws.{remainder, sign-same-order}
+use Rattle.words.specs.orders.SignLaws.{sign-same-order}
 
 module _ (w : List ℕ) (first end : ℕ) (l : first ≤ end) (h : end ≤ length w) where
   range-split : w ≡ take first w ++ (slice first end w ++ drop end w)

@@ -1,11 +1,11 @@
--- The lines have passed, so both starts lie in a range of the word, and the sign is that of the two remainders.
+-- The lines have passed, so both starts lie in a range of the word; sign and number are those of the two remainders.
 use borrow.Author.Needs.{needs}
-use mathlib.Core.Path.{_≡_, ap}
+use mathlib.Core.Path.{_≡_, _∙_}
 use Prim.Native.Nat.{ℕ}
 use native.Mathlib.Omega.{arith}
-use mir.Syntax.{w8}
-use mir.Facts.{toZ-ofZ}
 use Rattle.words.specs.orders.WordSigns.{sign-parts}
+use Rattle.words.specs.orders.CommonWithin.{common-parts}
+use Rattle.common.proofs.OrderLaws.{sign-read}
 use Rattle.checks.specs.declared.Checked.the-variants.{Passed}
 use Rattle.checks.specs.Lines.{tried}
 use Rattle.checks.proofs.LineLaws.{passed, refused}
@@ -39,39 +39,38 @@ returns c =
     let at-match = c .before .before in
     record { answer = refused _ _ (λ (n : ℕ). Comparison.Refused n) (at-match .before .admit .ensures) (at-match .match .keys2) (c .number .ensures) }
 
-sub-inverse-sign : tie.Need-sub-inverse-sign
-sub-inverse-sign c = omega (arith, within-at (c .before))
+sub-compare-words : tie.Need-sub-compare-words
+sub-compare-words c = omega (arith, within-at (c .before))
 
-part-inverse-sign-start : tie.Need-part-inverse-sign-start
-part-inverse-sign-start c = omega (arith, within-at (c .before))
+part-compare-words-start : tie.Need-part-compare-words-start
+part-compare-words-start c = omega (arith, within-at (c .before))
 
-part-inverse-sign-end : tie.Need-part-inverse-sign-end
-part-inverse-sign-end c = omega (arith, within-at (c .before))
+part-compare-words-end : tie.Need-part-compare-words-end
+part-compare-words-end c = omega (arith, within-at (c .before))
 
-sub-inverse-sign-2 : tie.Need-sub-inverse-sign-2
-sub-inverse-sign-2 c = omega (arith, within-at (c .before .before))
+sub-compare-words-2 : tie.Need-sub-compare-words-2
+sub-compare-words-2 c = omega (arith, within-at (c .before .before))
 
-part-inverse-sign-start-2 : tie.Need-part-inverse-sign-start-2
-part-inverse-sign-start-2 c = omega (arith, within-at (c .before .before))
+part-compare-words-start-2 : tie.Need-part-compare-words-start-2
+part-compare-words-start-2 c = omega (arith, within-at (c .before .before))
 
-part-inverse-sign-end-2 : tie.Need-part-inverse-sign-end-2
-part-inverse-sign-end-2 c = omega (arith, within-at (c .before .before))
+part-compare-words-end-2 : tie.Need-part-compare-words-end-2
+part-compare-words-end-2 c = omega (arith, within-at (c .before .before))
 
-inverse-sign-requires : tie.Need-inverse-sign-requires
-inverse-sign-requires c κs = search needs
+compare-words-requires : tie.Need-compare-words-requires
+compare-words-requires c κs = search needs
 
 returns-2 : tie.Need-returns-2
 returns-2 c =
-    let at-match = c .before .before .before .before in
+    let at-match = c .before .before .before .before .before in
     let h = within-at at-match in
-    record {
-      answer =
-          rw (passed-at at-match, toZ-ofZ {w = w8} (record { sfits = c .inverse-sign .ok }))
-          (ap Comparison.Sign (sign-parts _ _ _ _ _ (h .inside) (h .start-from) (h .start-below) (h .other-from) (h .other-below) (c .inverse-sign .ensures)));
-    }
+    let order = c .before .compare-words .ensures in
+    let common-is = order .common-is ∙ common-parts _ _ _ _ _ (h .start-from) (h .other-from) in
+    let sign-is = sign-read (order .sign-is) ∙ sign-parts _ _ _ _ _ (h .inside) (h .start-from) (h .start-below) (h .other-from) (h .other-below) (order .sign-is) in
+    record { answer = rw (passed-at at-match, sign-is, common-is) }
 
 pub compare-suffixes-spec : {M : Type 1} → statement M
 compare-suffixes-spec =
     tie.close
-    (tie.spec admit-requires enum-told enum-told-2 number-requires returns sub-inverse-sign part-inverse-sign-start part-inverse-sign-end
-    sub-inverse-sign-2 part-inverse-sign-start-2 part-inverse-sign-end-2 inverse-sign-requires returns-2)
+    (tie.spec admit-requires enum-told enum-told-2 number-requires returns sub-compare-words part-compare-words-start part-compare-words-end
+    sub-compare-words-2 part-compare-words-start-2 part-compare-words-end-2 compare-words-requires returns-2)

@@ -1,15 +1,9 @@
--- First letters that differ decide; else the common length shows where the words part: they differ there, or one ends, and the shorter
--- one is a prefix.
+-- First letters that differ decide; else the words that follow them are compared.
 use borrow.Author.Needs.{needs}
-use native.Mathlib.Omega.{arith}
-use Rattle.words.specs.orders.CommonLength.{Agree, common-agree}
-use Rattle.table.proofs.BeforeLaws.{first-decide, letters-decide, lengths-decide}
+use Rattle.common.proofs.OrderLaws.{sign-decides}
+use Rattle.table.proofs.BeforeLaws.{first-decide, rest-decides}
 use Rattle.table.proofs.merging.comes_before.Statement.{statement}
 use Rattle.table.proofs.merging.comes_before.Tie as tie
-
-agree-at : (c : tie.After-common-length) → let a = c .before .before .before .before .before .before .args in
-    Agree (a .u .now) (a .v .now) (c .common-length .result)
-agree-at c = rw (c .common-length .ensures) (common-agree _ _)
 
 shared-slice-read-a : tie.Need-shared-slice-read-a
 shared-slice-read-a c = search needs
@@ -20,26 +14,35 @@ shared-slice-read-b c = search needs
 returns : tie.Need-returns
 returns c = let begin = c .before .before .before .before .before .pre in first-decide _ _ (begin .left) (begin .right) (c .if1 .taken)
 
-common-length-requires : tie.Need-common-length-requires
-common-length-requires c κs = search needs
+sub-compare-words : tie.Need-sub-compare-words
+sub-compare-words c = search needs
 
-shorter-requires : tie.Need-shorter-requires
-shorter-requires c κs = search needs
+part-compare-words-start : tie.Need-part-compare-words-start
+part-compare-words-start c = search needs
 
-shared-slice-read-result : tie.Need-shared-slice-read-result
-shared-slice-read-result c = search needs
+part-compare-words-end : tie.Need-part-compare-words-end
+part-compare-words-end c = search needs
 
-shared-slice-read-result-2 : tie.Need-shared-slice-read-result-2
-shared-slice-read-result-2 c = search needs
+sub-compare-words-2 : tie.Need-sub-compare-words-2
+sub-compare-words-2 c = search needs
+
+part-compare-words-start-2 : tie.Need-part-compare-words-start-2
+part-compare-words-start-2 c = search needs
+
+part-compare-words-end-2 : tie.Need-part-compare-words-end-2
+part-compare-words-end-2 c = search needs
+
+compare-words-requires : tie.Need-compare-words-requires
+compare-words-requires c κs = search needs
 
 returns-2 : tie.Need-returns-2
-returns-2 c = letters-decide (agree-at (c .before .before .before .before)) (omega arith)
-
-returns-3 : tie.Need-returns-3
-returns-3 c = lengths-decide (agree-at (c .before .before)) (omega arith)
+returns-2 c =
+    let at-test = c .before .before .before .before .before in
+    let begin = at-test .before .before .before .before .before .pre in
+    rest-decides _ _ (begin .left) (begin .right) (at-test .if1 .left) (sign-decides (c .before .before .compare-words .ensures .sign-is))
 
 pub comes-before-spec : {M : Type 1} → statement M
 comes-before-spec =
     tie.close
-    (tie.spec shared-slice-read-a shared-slice-read-b returns common-length-requires shorter-requires shared-slice-read-result
-    shared-slice-read-result-2 returns-2 returns-3)
+    (tie.spec shared-slice-read-a shared-slice-read-b returns sub-compare-words part-compare-words-start part-compare-words-end
+    sub-compare-words-2 part-compare-words-start-2 part-compare-words-end-2 compare-words-requires returns-2)

@@ -7,8 +7,8 @@ use Rattle.words.specs.orders.Decisions.{decides-true}
 use Rattle.words.specs.orders.CommonLength.{Matched, matched-none}
 use Rattle.common.specs.Steps.{BothHave}
 use Rattle.common.proofs.FourLaws.{four-more}
-use Rattle.common.proofs.skip_fours.Statement.{statement}
-use Rattle.common.proofs.skip_fours.Tie as tie
+use Rattle.common.proofs.fours.skip_fours.Statement.{statement}
+use Rattle.common.proofs.fours.skip_fours.Tie as tie
 
 abbrev Inv-loop : tie.InvT-loop
 Inv-loop x y most l₀ l = Matched x y l

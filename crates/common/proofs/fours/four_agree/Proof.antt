@@ -1,8 +1,8 @@
 -- All four letters are there; their joined differences are 0 just where they are equal.
 use borrow.Author.Needs.{needs}
 use Rattle.common.proofs.FourLaws.{four-decides}
-use Rattle.common.proofs.four_agree.Statement.{statement}
-use Rattle.common.proofs.four_agree.Tie as tie
+use Rattle.common.proofs.fours.four_agree.Statement.{statement}
+use Rattle.common.proofs.fours.four_agree.Tie as tie
 
 shared-slice-read-near : tie.Need-shared-slice-read-near
 shared-slice-read-near c = search needs

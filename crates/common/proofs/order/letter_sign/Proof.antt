@@ -1,0 +1,12 @@
+use Rattle.common.specs.Steps.{LetterSign}
+use Rattle.common.proofs.order.letter_sign.Statement.{statement}
+use Rattle.common.proofs.order.letter_sign.Tie as tie
+
+returns : tie.Need-returns
+returns c = LetterSign.after (c .if1 .taken)
+
+returns-2 : tie.Need-returns-2
+returns-2 c = LetterSign.before (c .if1 .left)
+
+pub letter-sign-spec : {M : Type 1} → statement M
+letter-sign-spec = tie.close (tie.spec returns returns-2)
