@@ -5,7 +5,7 @@ ghost use Rattle.words.specs.orders.Decisions.{Decides};
 ghost use Rattle.words.specs.orders.CommonLength.{Matched};
 ghost use Rattle.common.specs.Steps.{BothHave, FourEqual};
 
-/// The smaller of two lengths.
+// The smaller of two lengths.
 pub fn shorter(m: usize, n: usize) -> usize
     ensures { λ r. ⌜ r ≡ min m n ⌝ }
 {

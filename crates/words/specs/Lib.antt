@@ -11,7 +11,8 @@
 --     AntiLyndon                  strict word                 Proposition 7.3      comes before each nonempty proper suffix, in ≺
 --     isInverseLyndon, isAntiLyndon                                                tests that decide these two
 --     commonLength                                                                 longest common extension: the number of equal leading letters
---     sign                        comparison                  Definition 2.4       −1, 0, +1 over a range and two starts
+--     remainder, sign             comparison                  Definition 2.4       −1, 0, +1 over a range and two starts
+--     commonWithin                request 104                                      how many leading letters two starts share before the range ends
 --   Factorizations
 --     failingLength               L                           Lemma 4.8            length of the shortest failing prefix
 --     borderLength, prefixLength  |r|, |p|                    Lemma 4.7            the bounded right extension
@@ -23,6 +24,7 @@
 --     CflInOf                     "the only division .."      Theorem 2.1          anti-Lyndon words, none before the next one in ≺
 --     BoundedExtension            L, |p|, |r|                 Definition 4.2       the sentences that fix them, a field each
 --     BreaksOf                    request 102                                      what is said of the breaks, a field each
+--     SharedMost                  request 104                                      what is said of that number, by places
 --     DominatedBy                                                                  every nonempty suffix of one is ≪ the other
 --     BelowByBorders              request 109                                      the same said by borders
 --     Demand3                     demand 3                    Corollary 7.2, 7.13  the demand's sentences, a field each
@@ -34,7 +36,7 @@
 --     SeparatedDemand3            demand 3                                         of a record with separators
 --
 -- The laws stand in folders by subject; the file beside a folder says what is in it.
---   orders       ⊑, ≪, <ₗ, ≺ and the sign; tests that decide
+--   orders       ⊑, ≪, <ₗ, ≺, the sign, how far words agree; tests that decide
 --   lyndon       inverse Lyndon and anti-Lyndon words; suffixes of a product
 --   icfl         the factorization into inverse Lyndon words: its factors and one step
 --   uniqueness   it is the only one of its kind

@@ -17,13 +17,16 @@ use Rattle.words.specs.orders.WordSigns.{part-remainder}
 
 -- ---- the numbers that the statement allows
 
+-- the later remainder ends there, or the next two letters differ
+abbrev Parted : (w : List ℕ) (end start other n : ℕ) → Type 0
+Parted w end start other n = (max start other + n ≡ end) ⊎ (¬ (getD w (start + n) 0 ≡ getD w (other + n) 0))
+
 module _ {w : List ℕ} {end start other : ℕ} where
   -- where the two part, no larger number is shared
-  shared-most : {n : ℕ} → Shared w end start other n → (max start other + n ≡ end) ⊎ (¬ (getD w (start + n) 0 ≡ getD w (other + n) 0))
-      → SharedMost w end start other n
+  shared-most : {n : ℕ} → Shared w end start other n → Parted w end start other n → SharedMost w end start other n
   shared-most {n} s p = record { shared = s; parts = p; largest = λ m k. go m k p (decLt n m) }
     where
-      go : (m : ℕ) → Shared w end start other m → (max start other + n ≡ end) ⊎ (¬ (getD w (start + n) 0 ≡ getD w (other + n) 0)) → Dec (n < m) → m ≤ n
+      go : (m : ℕ) → Shared w end start other m → Parted w end start other n → Dec (n < m) → m ≤ n
       go m k p (no l) = omega arith
       go m k (inl e) (yes l) = absurd (omega (arith, k .inside))
       go m k (inr d) (yes l) = absurd (d (k .equal n l))
@@ -74,7 +77,7 @@ module _ (w : List ℕ) (first end start other : ℕ) (h : end ≤ length w) (a 
           })
           (ended (ℕ-discrete (max start other + n) end))
         where
-          ended : Dec (max start other + n ≡ end) → (max start other + n ≡ end) ⊎ (¬ (getD w (start + n) 0 ≡ getD w (other + n) 0))
+          ended : Dec (max start other + n ≡ end) → Parted w end start other n
           ended (yes e) = inl e
           ended (no e) =
               let inside : max start other + n < end = omega (arith, m, k, g .matched .left, g .matched .right) in
@@ -85,7 +88,7 @@ module _ (w : List ℕ) (first end start other : ℕ) (h : end ≤ length w) (a 
   pub common-within-same : start ≡ other → commonWithin w first end start other ≡ end - start
   common-within-same e = go (common-within-is .parts)
     where
-      go : {n : ℕ} → (max start other + n ≡ end) ⊎ (¬ (getD w (start + n) 0 ≡ getD w (other + n) 0)) → n ≡ end - start
+      go : {n : ℕ} → Parted w end start other n → n ≡ end - start
       go (inl z) = omega arith
       go {n} (inr z) = absurd (z (ap (λ (i : ℕ). getD w (i + n) 0) e))
 
@@ -99,8 +102,7 @@ shared-within w end start other {n} h b d s = shared-most
     cut : ℕ
     cut = min n (end - max start other)
 
-    go : (max start other + n ≡ length w) ⊎ (¬ (getD w (start + n) 0 ≡ getD w (other + n) 0)) → Dec (n < end - max start other)
-        → (max start other + cut ≡ end) ⊎ (¬ (getD w (start + cut) 0 ≡ getD w (other + cut) 0))
+    go : Parted w (length w) start other n → Dec (n < end - max start other) → Parted w end start other cut
     go p (no l) = inl (omega arith)
     go (inl e) (yes l) = absurd (omega arith)
     go (inr z) (yes l) = let same : cut ≡ n = omega arith in inr (rw same z)
