@@ -76,7 +76,8 @@ module _ (w : List ℕ) (e : tried (recordLines w) ≡ Passed) where
   summary-passes : tried (summaryLines w (separatedIcflEnds w)) ≡ Passed
   summary-passes =
       let u = unmet (recordLines w) e in
-      let ends : EndsOf (length w) (separatedIcflEnds w) = record { some = rises-some (separated-icfl-ends-rise w) (accepted w [] e .nonempty); rises = separated-icfl-ends-rise w } in
+      let rises = separated-icfl-ends-rise w in
+      let ends : EndsOf (length w) (separatedIcflEnds w) = record { some = rises-some rises (accepted w [] e .nonempty); rises = rises } in
       all-pass (summaryLines w (separatedIcflEnds w)) (u .0, (u .1 .0, (ends-pass (separatedIcflEnds w) (length w) ends, search)))
 
   listing-is : listingOf w ≡ sevenLines (length w) (separatedIcflEnds w) (separatedCflInEnds w) (summaryOf (separatedIcflEnds w))

@@ -28,8 +28,6 @@ use Rattle.words.specs.stretches.Separation.{
   whole,
   split,
   separation,
-  stretches-whole,
-  stretches-split,
   icfl-unmarked,
   icfl-split,
   separated-icfl-concat,

@@ -128,8 +128,11 @@ adjacent-earlier : (c b : ℕ) (ms : List (List ℕ)) {i j : ℕ} → Adjacent i
     → (i′ : ℕ) × (j′ : ℕ) × (i ≡ c + i′) × (j ≡ c + j′) × Adjacent i′ j′ (b ∷ endsFrom b ms)
 unfolding endsFrom
 adjacent-earlier c b [] x = absurd (adjacent-one x)
-adjacent-earlier c b (m ∷ ms) {i} {j} x = go (adjacent-cases x) (λ y. adjacent-earlier c (b + length m) ms (rw (let z : c + (b + length m) ≡ c + b + length m = omega arith in z) y))
+adjacent-earlier c b (m ∷ ms) {i} {j} x = go (adjacent-cases x) (λ y. adjacent-earlier c (b + length m) ms (rw z y))
   where
+    z : c + (b + length m) ≡ c + b + length m
+    z = omega arith
+
     go : ((i ≡ c + b) × (j ≡ c + b + length m)) ⊎ Adjacent i j ((c + b + length m) ∷ endsFrom (c + b + length m) ms)
         → (Adjacent i j ((c + b + length m) ∷ endsFrom (c + b + length m) ms)
         → (i′ : ℕ) × (j′ : ℕ) × (i ≡ c + i′) × (j ≡ c + j′) × Adjacent i′ j′ ((b + length m) ∷ endsFrom (b + length m) ms))

@@ -17,13 +17,11 @@ use Rattle.words.specs.Separated.{
   consFirst,
   stretches,
   between,
-  breaksOver,
   separatedIcfl,
   separatedCflIn,
   separatedTable,
   separatedIcflEnds,
   separatedCflInEnds,
-  separatedBreaks,
 }
 use Rattle.words.specs.stretches.Unmarked.{unmarked-empty, unmarked-cons, unmarked-head, unmarked-tail}
 
