@@ -1,12 +1,12 @@
 -- What stores leave in a buffer: a copy one entry further (copy-more), an entry stored from the end on (FilledFrom), and what is kept past
--- a place (kept-past, cleared-kept). A fill one entry further is the kit's fill-more.
-use mathlib.Core.Path.{_≡_, ap, sym, _∙_}
-use mathlib.Core.List.{List, _∷_, _++_, append-assoc}
-use Prim.Native.Nat.{ℕ, suc, _+_, _-_, _≤_, _<_}
-use native.Mathlib.Nat.{zero-add}
+-- a place (kept-past, cleared-kept, cleared-twice). A fill one entry further is the kit's fill-more.
+use mathlib.Core.Path.{_≡_, refl, ap, sym, _∙_}
+use mathlib.Core.List.{List, [], _∷_, _++_, append-assoc}
+use Prim.Native.Nat.{ℕ, zero, suc, _+_, _-_, _≤_, _<_, max}
+use native.Mathlib.Nat.{zero-add, zero-max, max-zero, suc-max-suc}
 use native.Mathlib.Numerals.{add-one}
 use native.Mathlib.Omega.{arith}
-use lib.ListN.{length, take, drop, getD, set, replicate, length-set}
+use lib.ListN.{length, take, drop, getD, set, replicate, length-set, drop-of-length-le}
 use lib.Seq.{paste-suc, length-take-le, take-suc, drop-cons, set-at, getD-drop, getD-append-add}
 use Rattle.buffers.specs.Buffers.{cleared}
 use Rattle.buffers.proofs.PartLaws.{drop-to}
@@ -23,6 +23,15 @@ kept-past n m xs ys l e = sym (drop-to n m xs l) ∙ ap (drop (m - n)) e ∙ dro
 
 pub cleared-kept : (n : ℕ) (xs ys : List ℕ) → drop n xs ≡ drop n ys → cleared n xs ≡ cleared n ys
 cleared-kept n xs ys e = ap (λ (t : List ℕ). replicate n 0 ++ t) e
+
+-- cleared twice, it is cleared as far as the longer of the two
+pub cleared-twice : (n m : ℕ) (xs : List ℕ) → cleared m (cleared n xs) ≡ cleared (max n m) xs
+cleared-twice zero m xs = rw (zero-max m) refl
+cleared-twice (suc n) zero xs = rw (max-zero (suc n)) refl
+cleared-twice (suc n) (suc m) [] =
+    let none : (k : ℕ) → drop {A = ℕ} k [] ≡ [] = λ k. drop-of-length-le [] {i = k} (omega arith) in
+    rw (suc-max-suc n m) (ap (λ (t : List ℕ). 0 ∷ t) (rw (none n, none (max n m)) at (cleared-twice n m [])))
+cleared-twice (suc n) (suc m) (x ∷ xs) = rw (suc-max-suc n m) (ap (λ (t : List ℕ). 0 ∷ t) (cleared-twice n m xs))
 
 -- ---- a buffer that is filled from its end on
 

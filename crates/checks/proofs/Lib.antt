@@ -1,4 +1,5 @@
 pub mod LineLaws
 pub mod RecordLaws
 pub mod EndsLaws
+pub mod RecordEndsLaws
 pub mod MarkLaws

@@ -80,3 +80,23 @@ numberLine number count = 8 when leb count number
 -- request 103: "a test of a record that holds a mark"
 abbrev pub markLine : List ℕ → Line
 markLine w = 9 when isMarked w
+
+-- ---- request 105: the list of where the records of a batch end (paper 02: a card's list)
+
+abbrev pub mostRecords : ℕ
+mostRecords = 64
+
+-- "falls somewhere": an entry is below the one before it
+unfoldable pub falls : List ℕ → Bool
+falls [] = false
+falls (a ∷ []) = false
+falls (a ∷ b ∷ es) = ltb b a || falls (b ∷ es)
+
+-- "the list is empty, has more than 64 ends, falls somewhere, or does not end with the bytes lent"
+unfoldable pub faultyRecordEnds : List ℕ → ℕ → Bool
+unfolding falls lastOf
+faultyRecordEnds [] n = true
+faultyRecordEnds (e ∷ es) n = ltb mostRecords (length (e ∷ es)) || (falls (e ∷ es) || not (eqb (lastOf e es) n))
+
+abbrev pub recordEndsLine : List ℕ → ℕ → Line
+recordEndsLine es n = 10 when faultyRecordEnds es n

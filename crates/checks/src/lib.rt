@@ -2,12 +2,15 @@
 //! these by `then`, in the table's order, and passes a refusal up with its number unchanged.
 ghost use mathlib.Core.Path.{_≡_};
 ghost use mathlib.Core.List.{[], _∷_};
-ghost use Rattle.checks.specs.Lines.{_when_, tried, recordLines, workLine, resultLine, rangeLine, startLine, faultyEnds, endsLine, numberLine, markLine};
+ghost use Rattle.checks.specs.Lines.{_when_, tried, recordLines, workLine, resultLine, rangeLine, startLine, faultyEnds, endsLine, numberLine, markLine, faultyRecordEnds, recordEndsLine};
 ghost use Rattle.words.specs.Separated.{isMarked};
 ghost use Rattle.checks.specs.Answers.{numberOf, firstOf};
 
 /// The most letters that a record may have.
 pub const MOST: usize = 4096;
+
+/// The most records that a batch may have.
+pub const MOST_RECORDS: usize = 64;
 
 /// What a check says: passed, or the number of the refusal.
 pub enum Checked {
@@ -141,4 +144,32 @@ pub fn check_marks(word: &[u8]) -> Checked
     ensures { λ r. ⌜ r ≡ tried (markLine (now (word .entry)) ∷ []) ⌝ }
 {
     Checked::when(9, is_marked(word))
+}
+
+// Whether a list of record ends is empty or too long, falls somewhere, or does not end at the number of bytes.
+fn faulty_record_ends(record_ends: &[u32], bytes: usize) -> bool
+    ensures { λ r. ⌜ r ≡ faultyRecordEnds (now («record_ends» .entry)) bytes ⌝ }
+{
+    let records = record_ends.len();
+    if (records == 0) | (MOST_RECORDS < records) {
+        return true;
+    }
+    let mut last: u32 = 0;
+    let mut i: usize = 0;
+    while i < records {
+        let end = record_ends[i];
+        if end < last {
+            return true;
+        }
+        last = end;
+        i += 1;
+    }
+    last as usize != bytes
+}
+
+/// Line 10: a list of record ends for so many bytes.
+pub fn check_record_ends(record_ends: &[u32], bytes: usize) -> Checked
+    ensures { λ r. ⌜ r ≡ tried (recordEndsLine (now («record_ends» .entry)) bytes ∷ []) ⌝ }
+{
+    Checked::when(10, faulty_record_ends(record_ends, bytes))
 }

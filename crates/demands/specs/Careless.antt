@@ -46,6 +46,7 @@ cutters cut reasoned = record {
   Test = library .Test;
   PieceCut = cut;
   ReasonedCut = reasoned;
+  CardCut = library .CardCut;
   StrictCut = library .StrictCut;
   StartTable = library .StartTable;
   Comparing = library .Comparing;

@@ -55,6 +55,7 @@ tester lines = record {
   Test = λ w work r work′. (r ≡ extensionOf w unless lines w (length work) then Extension.Refused) × (work′ ≡ work);
   PieceCut = library .PieceCut;
   ReasonedCut = library .ReasonedCut;
+  CardCut = library .CardCut;
   StrictCut = library .StrictCut;
   StartTable = library .StartTable;
   Comparing = library .Comparing;

@@ -41,6 +41,9 @@ use Rattle.fates.specs.Entries.{entriesOf}
 use Rattle.icfl.specs.declared.with_breaks.CountedBreaks.{CountedBreaks}
 use Rattle.icfl.specs.Icfl.{icflLines, IcflDone}
 use Rattle.icfl.specs.IcflBreaks.{breaksLines, breaksChecked, BreaksDone}
+use Rattle.batch.specs.declared.Batch.{Batch}
+use Rattle.batch.specs.Batch.{recordsFrom, entriesUsed, placesOf, batchLines, BatchDone}
+use Rattle.batch.specs.BatchStatements.{Left}
 use Rattle.cfl.specs.CflIn.{cflInLines, CflInDone}
 use Rattle.table.specs.Table.{tableLines, Tabled}
 use Rattle.compare.specs.declared.suffixes.Comparison.{Comparison}
@@ -48,7 +51,8 @@ use Rattle.compare.specs.Compare.{comparisonChecked, signOf, commonOf, compareL
 use Rattle.reading.specs.Factor.{factorLines, FactorAt}
 use Rattle.summary.specs.declared.Summary.{Summary}
 use Rattle.summary.specs.Summary.{summaryLines, Summarized}
-use Rattle.exports.specs.Exports.{TestNumbers, IcflNumbers, BreaksNumbers, CflInNumbers, TableNumbers, ComparisonNumbers, FactorNumbers}
+use Rattle.exports.specs.declared.Replies.{Replies}
+use Rattle.exports.specs.Exports.{TestNumbers, IcflNumbers, BreaksNumbers, BatchNumbers, CflInNumbers, TableNumbers, ComparisonNumbers, FactorNumbers}
 
 -- ---- the calls: which answers each may give, with which contents of the lent buffers afterwards
 
@@ -56,6 +60,7 @@ pub record Calls : Type 1 where
   pub Test : (w work : List ℕ) (r : Extension) (work′ : List ℕ) → Type 0
   pub PieceCut : (w work ends : List ℕ) (r : Counted) (work′ ends′ : List ℕ) → Type 0
   pub ReasonedCut : (w work ends breaks : List ℕ) (r : CountedBreaks) (work′ ends′ breaks′ : List ℕ) → Type 0
+  pub CardCut : (bytes es work ends : List ℕ) (r : Batch) (work′ ends′ : List ℕ) → Type 0
   pub StrictCut : (w ends : List ℕ) (r : Counted) (ends′ : List ℕ) → Type 0
   pub StartTable : (w out : List ℕ) (r : Counted) (out′ : List ℕ) → Type 0
   pub Comparing : (w : List ℕ) (first end start other : ℕ) (r : Comparison) → Type 0
@@ -68,6 +73,7 @@ library = record {
   Test = ExtensionFound;
   PieceCut = IcflDone;
   ReasonedCut = BreaksDone;
+  CardCut = BatchDone;
   StrictCut = CflInDone;
   StartTable = Tabled;
   Comparing = Compared;
@@ -86,6 +92,9 @@ countBy number count = decided (numbered number) (Counted.Count count) Counted.R
 abbrev pub countsBy : (number factors breaks : ℕ) → CountedBreaks
 countsBy number factors breaks = decided (numbered number) (CountedBreaks.Counts factors breaks) CountedBreaks.Refused
 
+abbrev pub batchBy : Replies → Batch
+batchBy x = record { refusal = x .refusal; places = map (λ y. record { answer = countBy (y .refusal) (y .count) }) (x .replies) }
+
 abbrev pub comparisonBy : (number : ℕ) (sign : ℤ) (common : ℕ) → Comparison
 comparisonBy number sign common = decided (numbered number) (Comparison.Order sign common) Comparison.Refused
 
@@ -95,6 +104,7 @@ exported = record {
   Test = λ w work r work′. (e l p b : ℕ) × (r ≡ verdictBy e l p b) × TestNumbers w work e l p b work′;
   PieceCut = λ w work ends r work′ ends′. (e n : ℕ) × (r ≡ countBy e n) × IcflNumbers w work ends e n work′ ends′;
   ReasonedCut = λ w work ends breaks r work′ ends′ breaks′. (e n k : ℕ) × (r ≡ countsBy e n k) × BreaksNumbers w work ends breaks e n k work′ ends′ breaks′;
+  CardCut = λ bytes es work ends r work′ ends′. (x : Replies) × (r ≡ batchBy x) × BatchNumbers bytes es work ends x work′ ends′;
   StrictCut = λ w ends r ends′. (e n : ℕ) × (r ≡ countBy e n) × CflInNumbers w ends e n ends′;
   StartTable = λ w out r out′. (e n : ℕ) × (r ≡ countBy e n) × TableNumbers w out e n out′;
   Comparing = λ w first end start other r. (e : ℕ) × (s : ℤ) × (n : ℕ) × (r ≡ comparisonBy e s n) × ComparisonNumbers w first end start other e s n;
@@ -103,7 +113,7 @@ exported = record {
 }
 
 -- ---- demand 1: "The answer to every call, for every input, is a result or one of eight numbered refusals; .. and paper 01 fixes the condition, the order and
--- every buffer for each refusal." Request 103: "Demand 1's eight refusals grow by each number named from here on": 9.
+-- every buffer for each refusal." Request 103: "Demand 1's eight refusals grow by each number named from here on": 9, and 10 of request 105.
 
 -- a result where no line is met, and otherwise the number of the first that is: one of those that paper 01 gives the call, and never 0
 pub record Answers (numbers : List ℕ) (lines : List Line) (said : Checked) : Type 0 where
@@ -132,6 +142,10 @@ pub record Demand1 (c : Calls) : Type 0 where
   pub reasonedCut : (w work ends breaks work′ ends′ breaks′ : List ℕ) (r : CountedBreaks) → c .ReasonedCut w work ends breaks r work′ ends′ breaks′
       → Answers (1 ∷ 2 ∷ 3 ∷ 4 ∷ []) (breaksLines w (length work) (length ends) (length breaks)) (breaksChecked r) × Untouched (breaksChecked r) ends ends′
       × Untouched (breaksChecked r) breaks breaks′ × UntouchedBut4 (3 * length w) (breaksChecked r) work work′
+  -- request 105: 10 for the card, "checked before any record"; "With refusal 10 all of them" hold a result of 0
+  pub card : (bytes es work ends work′ ends′ : List ℕ) (r : Batch) → c .CardCut bytes es work ends r work′ ends′
+      → Answers (10 ∷ []) (batchLines es (length bytes)) (numbered (r .refusal)) × Untouched (numbered (r .refusal)) ends ends′
+      × Untouched (numbered (r .refusal)) work work′ × ((e : ℕ) → numbered (r .refusal) ≡ Refused e → r .places ≡ placesOf [])
   pub strictCut : (w ends ends′ : List ℕ) (r : Counted) → c .StrictCut w ends r ends′
       → Answers (1 ∷ 2 ∷ 4 ∷ []) (cflInLines w (length ends)) (countChecked r) × Untouched (countChecked r) ends ends′
   pub startTable : (w out out′ : List ℕ) (r : Counted) → c .StartTable w out r out′
@@ -141,6 +155,25 @@ pub record Demand1 (c : Calls) : Type 0 where
   pub reader : (w es : List ℕ) (k : ℕ) (part : List ℕ) (number : ℕ) → c .Reading w es k part number
       → Answers (1 ∷ 2 ∷ 7 ∷ 8 ∷ []) (factorLines w es k) (numbered number)
   pub summary : (w es : List ℕ) (r : Summary) → c .Summing w es r → Answers (1 ∷ 2 ∷ 7 ∷ []) (summaryLines w es) (numbered (r .refusal))
+
+-- ---- request 105, the answers for the records of a card that is not refused
+
+-- "Each record's answer, refusal included, is the one a single call gives with what is left of the result buffer. A refused record uses none of it, and the next
+-- one is still tried.": the calls one after another, each with the buffers as the one before left them
+pub data Singly (c : Calls) : (records : List (List ℕ)) (work left : List ℕ) (answers : List Counted) (work′ left′ : List ℕ) → Type 0 where
+  none : {work left : List ℕ} → Singly c [] work left [] work left
+  next : {w work left work₁ left₁ work′ left′ : List ℕ} {ws : List (List ℕ)} {a : Counted} {answers : List Counted} → c .PieceCut w work left a work₁ left₁
+      → Singly c ws work₁ (drop (entriesUsed a) left₁) answers work′ left′ → Singly c (w ∷ ws) work left (a ∷ answers) work′ (take (entriesUsed a) left₁ ++ left′)
+
+pub record CardAnswered (c : Calls) (bytes es work ends : List ℕ) (r : Batch) (work′ ends′ : List ℕ) : Type 0 where
+  pub answers : List Counted
+  -- "The answers come in the card's order, in 64 places; those past the last record hold a result of 0."
+  pub places : r .places ≡ placesOf answers
+  pub singly : Singly c (recordsFrom 0 es bytes) work ends answers work′ ends′
+  -- the ends without gaps, and the work buffer's zeros up to 3 times the longest record that was cut or refused by 4
+  pub left : Left (recordsFrom 0 es bytes) answers work ends work′ ends′
+  -- as many entries as bytes are enough
+  pub enough : length bytes ≤ length ends → (a : Counted) → List·Memᴰ a answers → ¬ (a ≡ Counted.Refused 4)
 
 -- ---- demand 2, for a record w
 
@@ -250,10 +283,12 @@ pub record Runs (c : Calls) (w es ss : List ℕ) (compare : ℕ → ℕ → ℕ 
   pub strictCut : (ends ends′ : List ℕ) × (n : ℕ) × c .StrictCut w ends (Counted.Count n) ends′ × (ss ≡ take n ends′)
   pub comparison : (first end start other : ℕ) → c .Comparing w first end start other (compare first end start other)
 
--- ---- all three; and for every record there is what the third speaks of
+-- ---- all three; for every record there is what the third speaks of; and the card's answers
 
 pub record Demands (c : Calls) : Type 0 where
   pub first : Demand1 c
   pub second : (w : List ℕ) → 1 ≤ length w → length w ≤ mostLetters → Demand2 c w
   pub third : (w es ss : List ℕ) (compare : ℕ → ℕ → ℕ → ℕ → Comparison) → Runs c w es ss compare → Demand3 w es ss compare
   pub given : (w : List ℕ) → 1 ≤ length w → length w ≤ mostLetters → UpToSeparator w → (es ss : List ℕ) × (compare : ℕ → ℕ → ℕ → ℕ → Comparison) × Runs c w es ss compare
+  pub card : (bytes es work ends work′ ends′ : List ℕ) (r : Batch) → c .CardCut bytes es work ends r work′ ends′ → numbered (r .refusal) ≡ Passed
+      → CardAnswered c bytes es work ends r work′ ends′

@@ -3,7 +3,7 @@
 use mathlib.Core.Path.{_≡_, refl, ap, sym, _∙_}
 use mathlib.Core.Bool.{Bool, true, false}
 use mathlib.Core.Logic.{_⊎_, inl, inr}
-use mathlib.Core.List.{List, List·Memᴰ}
+use mathlib.Core.List.{List, [], List·Memᴰ}
 use Prim.Native.Nat.{ℕ, zero, suc, _*_, _≤_, _<_}
 use native.Mathlib.Omega.{arith}
 use lib.ListN.{length, drop, getD, replicate, length-drop, length-replicate}
@@ -34,7 +34,7 @@ use Rattle.checks.specs.Answers.{numbered, numberOf, countChecked, Filled}
 use Rattle.checks.specs.declared.Checked.{Checked}
 use Rattle.checks.specs.declared.Checked.the-variants.{Passed, Refused}
 use Rattle.checks.specs.declared.Counted.{Counted}
-use Rattle.checks.proofs.LineLaws.{not-both, said, everyNumber, among, first-listed, zero-passes, numbered-is}
+use Rattle.checks.proofs.LineLaws.{not-both, reading, said, everyNumber, among, first-listed, zero-passes, numbered-is}
 use Rattle.extension.specs.declared.Extension.{Extension}
 use Rattle.extension.specs.Extension.{extensionOf, testChecked, extensionLines, ExtensionFound}
 use Rattle.extension.proofs.VerdictLaws.{fails-told, holds-told, verdict-checked}
@@ -43,6 +43,8 @@ use Rattle.fates.proofs.EntryLaws.{length-entries}
 use Rattle.icfl.specs.declared.with_breaks.CountedBreaks.{CountedBreaks}
 use Rattle.icfl.specs.Icfl.{workAfter}
 use Rattle.icfl.specs.IcflBreaks.{breaksLines, breaksChecked, BreaksDone}
+use Rattle.batch.specs.declared.Batch.{Batch}
+use Rattle.batch.specs.Batch.{batchOf, placesOf, batchLines, BatchDone}
 use Rattle.compare.specs.declared.suffixes.Comparison.{Comparison}
 use Rattle.compare.specs.Compare.{comparisonChecked, compareLines, orderOf}
 use Rattle.summary.specs.Summary.{summaryLines, summaryOf, emptySummary}
@@ -50,6 +52,7 @@ use Rattle.demands.specs.Demands.{Calls, library, exported, Answers, Unt
 use Rattle.demands.specs.Meets.{Meets, Total, library-meets, library-total, exported-meets, exported-total}
 use Rattle.demands.specs.Demand3Holds.{demand-3}
 use Rattle.demands.specs.RunsExist.{runs-exist}
+use Rattle.demands.specs.CardHolds.{card-answered}
 
 -- ---- demand 1
 
@@ -83,6 +86,17 @@ breaks-say {w} {work} {ends} {breaks} f =
     let lines = breaksLines w (length work) (length ends) (length breaks) in
     let result = CountedBreaks.Counts (length (separatedIcflEnds w)) (length (separatedBreaks w)) in
     ap breaksChecked (f .answer) ∙ said breaksChecked result (λ (i : ℕ). CountedBreaks.Refused i) refl (λ number. refl) (tried lines)
+
+card-number : {bytes es work ends work′ ends′ : List ℕ} {r : Batch} → BatchDone bytes es work ends r work′ ends′
+    → r .refusal ≡ numberOf (tried (batchLines es (length bytes)))
+card-number {bytes} {es} {work} {ends} f =
+    let done : Batch = record { refusal = 0; places = placesOf (batchOf bytes es work ends .answers) } in
+    ap (λ (b : Batch). b .refusal) (f .answer)
+    ∙ reading (λ (b : Batch). b .refusal) done (λ number. record { refusal = number; places = placesOf [] }) (tried (batchLines es (length bytes)))
+
+card-says : {bytes es work ends work′ ends′ : List ℕ} {r : Batch} → BatchDone bytes es work ends r work′ ends′
+    → numbered (r .refusal) ≡ tried (batchLines es (length bytes))
+card-says {bytes} {es} f = ap numbered (card-number f) ∙ numbered-is (batchLines es (length bytes)) refl
 
 -- a buffer that is changed only where no line is met
 untouched : {k : Checked} (lines : List Line) (buffer result : List ℕ) {buffer′ : List ℕ} → k ≡ tried lines
@@ -120,6 +134,11 @@ module _ (c : Calls) (m : Meets c) where
         let f = m .reasonedCut w work ends breaks r work′ ends′ breaks′ h in
         let says = breaks-say f in
         (answers _ _ says refl refl, untouched _ _ _ says (f .ends-are), untouched _ _ _ says (f .breaks-are), untouched-but-4 _ _ _ says (f .worked));
+    card = λ bytes es work ends work′ ends′ r h.
+        let f = m .card bytes es work ends r work′ ends′ h in
+        let says = card-says f in
+        (numbered-answers _ _ (card-number f) refl refl, untouched _ _ _ says (f .result), untouched _ _ _ says (f .worked),
+        (λ e y. ap (λ (b : Batch). b .places) (rw (sym says ∙ y) at (f .answer))));
     strictCut = λ w ends ends′ r h.
         let f = m .strictCut w ends r ends′ h in
         (answers _ _ (filled-says f) refl refl, untouched _ _ _ (filled-says f) (f .result));
@@ -226,6 +245,9 @@ demands c m t = record {
   second = λ w s l. demand-2 c m w s l;
   third = demand-3 c m;
   given = λ w s l up. runs-exist w s l c m t up;
+  card = λ bytes es work ends work′ ends′ r h e.
+      let f = m .card bytes es work ends r work′ ends′ h in
+      card-answered c m t bytes es work ends work′ ends′ r f (sym (card-says f) ∙ e);
 }
 
 pub library-demands : Demands library

@@ -7,6 +7,7 @@ pub mod Demands
 pub mod Meets
 pub mod RunsExist
 pub mod Demand3Holds
+pub mod CardHolds
 pub mod DemandsHold
 pub mod Careless
 pub mod CarelessMarks

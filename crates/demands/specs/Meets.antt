@@ -2,10 +2,10 @@
 -- functions are such: library-meets, library-total, exported-meets, exported-total.
 use mathlib.Core.Path.{_≡_, refl, ap, _∙_}
 use mathlib.Core.Bool.{Bool, true, false}
-use mathlib.Core.List.{List, []}
-use Prim.Native.Nat.{ℕ, _<_}
+use mathlib.Core.List.{List, [], _∷_, _++_, map}
+use Prim.Native.Nat.{ℕ, zero, suc, _-_, _<_}
 use native.Mathlib.Omega.{arith}
-use lib.ListN.{length, getD}
+use lib.ListN.{length, getD, replicate}
 use lib.Seq.{slice, slice-empty}
 use lib.IntN.{ℤ}
 use lib.Dec.{eqb, ltb}
@@ -16,7 +16,7 @@ use Rattle.words.specs.Separated.{separatedIcflEnds, separatedBreaks}
 use Rattle.words.specs.orders.Decisions.{decides-false}
 use Rattle.words.specs.lyndon.WordTests.{inverse-lyndon-test}
 use Rattle.words.specs.icfl.Failing.{failing-is}
-use Rattle.checks.specs.Lines.{Line, tried, decided}
+use Rattle.checks.specs.Lines.{Line, tried, decided, mostRecords}
 use Rattle.checks.specs.Answers.{numberOf, numbered, Filled}
 use Rattle.checks.specs.declared.Checked.{Checked}
 use Rattle.checks.specs.declared.Checked.the-variants.{Passed, Refused}
@@ -26,8 +26,12 @@ use Rattle.checks.proofs.RecordLaws.{accepted}
 use Rattle.extension.specs.declared.Extension.{Extension}
 use Rattle.extension.specs.Extension.{verdictAs, extensionOf, extensionLines, ExtensionFound}
 use Rattle.icfl.specs.declared.with_breaks.CountedBreaks.{CountedBreaks}
-use Rattle.icfl.specs.Icfl.{IcflDone}
+use Rattle.icfl.specs.Icfl.{icflLines, IcflDone}
 use Rattle.icfl.specs.IcflBreaks.{breaksLines, BreaksDone}
+use Rattle.batch.specs.declared.Batch.{Batch}
+use Rattle.batch.specs.declared.Place.{Place}
+use Rattle.batch.specs.Batch.{icflAnswer, recordsFrom, uncut, batchOf, placesOf, batchLines, BatchDone}
+use Rattle.batch.proofs.FoldLaws.{batch-answers, Every, every-added}
 use Rattle.cfl.specs.CflIn.{CflInDone}
 use Rattle.table.specs.Table.{Tabled}
 use Rattle.compare.specs.declared.suffixes.Comparison.{Comparison}
@@ -35,14 +39,18 @@ use Rattle.compare.specs.Compare.{compareLines, orderOf, Compared}
 use Rattle.reading.specs.Factor.{factorLines, factorFrom, FactorAt}
 use Rattle.summary.specs.declared.Summary.{Summary}
 use Rattle.summary.specs.Summary.{Summarized}
-use Rattle.exports.specs.Exports.{ifFailing, TestNumbers, FilledNumbers, BreaksNumbers, ComparisonNumbers, FactorNumbers}
-use Rattle.demands.specs.Demands.{Calls, library, exported, verdictBy, countBy, countsBy, comparisonBy}
+use Rattle.exports.specs.declared.Reply.{Reply}
+use Rattle.exports.specs.declared.Replies.{Replies}
+use Rattle.exports.specs.Exports.{ifFailing, TestNumbers, FilledNumbers, BreaksNumbers, replyOf, repliesOf, BatchNumbers, ComparisonNumbers, FactorNumbers}
+use Rattle.demands.specs.Demands.{Calls, library, exported, verdictBy, countBy, countsBy, batchBy, comparisonBy}
 
 pub record Meets (c : Calls) : Type 0 where
   pub test : (w work : List ℕ) (r : Extension) (work′ : List ℕ) → c .Test w work r work′ → ExtensionFound w work r work′
   pub pieceCut : (w work ends : List ℕ) (r : Counted) (work′ ends′ : List ℕ) → c .PieceCut w work ends r work′ ends′ → IcflDone w work ends r work′ ends′
   pub reasonedCut : (w work ends breaks : List ℕ) (r : CountedBreaks) (work′ ends′ breaks′ : List ℕ) → c .ReasonedCut w work ends breaks r work′ ends′ breaks′
       → BreaksDone w work ends breaks r work′ ends′ breaks′
+  pub card : (bytes es work ends : List ℕ) (r : Batch) (work′ ends′ : List ℕ) → c .CardCut bytes es work ends r work′ ends′
+      → BatchDone bytes es work ends r work′ ends′
   pub strictCut : (w ends : List ℕ) (r : Counted) (ends′ : List ℕ) → c .StrictCut w ends r ends′ → CflInDone w ends r ends′
   pub startTable : (w out : List ℕ) (r : Counted) (out′ : List ℕ) → c .StartTable w out r out′ → Tabled w out r out′
   pub comparison : (w : List ℕ) (first end start other : ℕ) (r : Comparison) → c .Comparing w first end start other r → Compared w first end start other r
@@ -62,6 +70,7 @@ library-meets = record {
   test = λ w work r work′ h. h;
   pieceCut = λ w work ends r work′ ends′ h. h;
   reasonedCut = λ w work ends breaks r work′ ends′ breaks′ h. h;
+  card = λ bytes es work ends r work′ ends′ h. h;
   strictCut = λ w ends r ends′ h. h;
   startTable = λ w out r out′ h. h;
   comparison = λ w first end start other r h. h;
@@ -107,6 +116,48 @@ breaks-by w work ends breaks {n = n} {k = k} f z =
       breaks-are = f .breaks-are;
       worked = f .worked;
     }
+
+-- an answer is read back from its two numbers
+abbrev Readable : Counted → Type 0
+Readable a = countBy (replyOf a .refusal) (replyOf a .count) ≡ a
+
+single-readable : (w work ends : List ℕ) → Readable (icflAnswer w work ends)
+single-readable w work ends = go (tried (icflLines w (length work) (length ends))) (numbered-is (icflLines w (length work) (length ends)) refl)
+  where
+    go : (k : Checked) → numbered (numberOf k) ≡ k → Readable (decided k (Counted.Count (length (separatedIcflEnds w))) Counted.Refused)
+    go Passed h = refl
+    go (Refused number) h = rw h refl
+
+abbrev blank : Place
+blank = record { answer = Counted.Count 0 }
+
+abbrev readBack : List Reply → List Place
+readBack replies = map (λ y. record { answer = countBy (y .refusal) (y .count) }) replies
+
+places-back : (answers : List Counted) → Every Readable answers → (n : ℕ) → (let places = map (λ answer. record { answer = answer }) answers ++ replicate n blank in
+    readBack (repliesOf places) ≡ places)
+places-back [] h zero = refl
+places-back [] h (suc n) = ap (λ (t : List Place). blank ∷ t) (places-back [] tt n)
+places-back (a ∷ answers) h n =
+    ap (λ (x : Counted). record { answer = x } ∷ readBack (repliesOf (map (λ answer. record { answer = answer }) answers ++ replicate n blank))) (h .0)
+    ∙ ap (λ (t : List Place). record { answer = a } ∷ t) (places-back answers (h .1) n)
+
+batch-by : (bytes es work ends : List ℕ) {x : Replies} {work′ ends′ : List ℕ} {r : Batch} → BatchNumbers bytes es work ends x work′ ends′ → r ≡ batchBy x
+    → BatchDone bytes es work ends r work′ ends′
+batch-by bytes es work ends f z = record {
+  answer = z ∙ ap batchBy (f .answer) ∙ go (tried (batchLines es (length bytes)));
+  result = f .result;
+  worked = f .worked;
+}
+  where
+    readable : Every Readable (batchOf bytes es work ends .answers)
+    readable = rw (batch-answers bytes es work ends) (every-added Readable single-readable (uncut work ends) (recordsFrom 0 es bytes))
+
+    go : (k : Checked) → batchBy (decided k (record { refusal = 0; replies = repliesOf (placesOf (batchOf bytes es work ends .answers)) })
+        (λ number. record { refusal = number; replies = repliesOf (placesOf []) }))
+        ≡ decided k (record { refusal = 0; places = placesOf (batchOf bytes es work ends .answers) }) (λ number. record { refusal = number; places = placesOf [] })
+    go Passed = ap (λ (t : List Place). record { refusal = 0; places = t }) (places-back (batchOf bytes es work ends .answers) readable (mostRecords - length (batchOf bytes es work ends .answers)))
+    go (Refused number) = ap (λ (t : List Place). record { refusal = number; places = t }) (places-back [] tt mostRecords)
 
 -- L tells the verdict: it is 0 for an inverse Lyndon word alone
 verdict-by : (w : List ℕ) (l p r : ℕ) → 0 < length w
@@ -156,6 +207,7 @@ exported-meets = record {
   test = λ w work r work′ h. test-by w work (h .5) (h .4);
   pieceCut = λ w work ends r work′ ends′ h. record { filled = filled-by _ refl (h .3 .filled) (h .2); worked = h .3 .worked };
   reasonedCut = λ w work ends breaks r work′ ends′ breaks′ h. breaks-by w work ends breaks (h .4) (h .3);
+  card = λ bytes es work ends r work′ ends′ h. batch-by bytes es work ends (h .2) (h .1);
   strictCut = λ w ends r ends′ h. filled-by _ refl (h .3) (h .2);
   startTable = λ w out r out′ h. filled-by _ refl (h .3) (h .2);
   comparison = λ w first end start other r h. order-by w first end start other (h .4) (h .3);

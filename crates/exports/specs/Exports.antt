@@ -2,7 +2,7 @@
 -- calls leave them.
 use mathlib.Core.Path.{_≡_}
 use mathlib.Core.Bool.{Bool, true, false}
-use mathlib.Core.List.{List}
+use mathlib.Core.List.{List, [], map}
 use Prim.Native.Nat.{ℕ, _*_, _<_}
 use lib.ListN.{length, getD}
 use lib.IntN.{ℤ, pos}
@@ -17,11 +17,14 @@ use Rattle.extension.specs.Extension.{extensionLines}
 use Rattle.fates.specs.Entries.{entriesOf}
 use Rattle.icfl.specs.Icfl.{icflLines, workAfter}
 use Rattle.icfl.specs.IcflBreaks.{breaksLines}
+use Rattle.batch.specs.Batch.{placesOf, batchOf, batchLines}
+use Rattle.batch.specs.declared.Place.{Place}
 use Rattle.cfl.specs.CflIn.{cflInLines}
 use Rattle.table.specs.Table.{tableLines}
 use Rattle.compare.specs.Compare.{compareLines}
 use Rattle.reading.specs.Factor.{factorLines, factorFrom}
 use Rattle.exports.specs.declared.Reply.{Reply}
+use Rattle.exports.specs.declared.Replies.{Replies}
 
 -- one of L, |p|, |r|: 0 for an inverse Lyndon word
 abbrev pub ifFailing : ℕ → Bool → ℕ
@@ -53,6 +56,20 @@ pub record BreaksNumbers (w work ends breaks : List ℕ) (r count breakCount : �
   pub breaks-are : breaks′ ≡ written (entriesOf (separatedBreaks w)) breaks unless breaksLines w (length work) (length ends) (length breaks) then (λ number. breaks)
   pub worked : work′ ≡ cleared (3 * length w) work unless breaksLines w (length work) (length ends) (length breaks) then workAfter (3 * length w) work
 
+-- an answer as two numbers, and those of all places
+abbrev pub replyOf : Counted → Reply
+replyOf (Counted.Count n) = record { refusal = 0; count = n }
+replyOf (Counted.Refused e) = record { refusal = e; count = 0 }
+
+abbrev pub repliesOf : List Place → List Reply
+repliesOf places = map (λ place. replyOf (place .answer)) places
+
+pub record BatchNumbers (bytes es work ends : List ℕ) (r : Replies) (work′ ends′ : List ℕ) : Type 0 where
+  pub answer : r ≡ record { refusal = 0; replies = repliesOf (placesOf (batchOf bytes es work ends .answers)) }
+      unless batchLines es (length bytes) then (λ number. record { refusal = number; replies = repliesOf (placesOf []) })
+  pub result : ends′ ≡ batchOf bytes es work ends .ends unless batchLines es (length bytes) then (λ number. ends)
+  pub worked : work′ ≡ batchOf bytes es work ends .work unless batchLines es (length bytes) then (λ number. work)
+
 abbrev pub CflInNumbers : List ℕ → List ℕ → ℕ → ℕ → List ℕ → Type 0
 CflInNumbers w ends r count ends′ = FilledNumbers (cflInLines w (length ends)) (length (separatedCflInEnds w)) (separatedCflInEnds w) ends r count ends′
 
@@ -70,13 +87,13 @@ pub record FactorNumbers (w es : List ℕ) (k r first end : ℕ) : Type 0 where
   pub first-is : first ≡ factorFrom es k unless factorLines w es k then (λ number. 0)
   pub end-is : end ≡ getD es k 0 unless factorLines w es k then (λ number. 0)
 
--- ---- inner function
+-- ---- inner functions
 
 -- a count that fits into sixteen bits
 abbrev pub Small : Counted → Type 0
 Small (Counted.Count n) = n < 65536
 Small (Counted.Refused e) = Unit {0}
 
-abbrev pub replyOf : Counted → Reply
-replyOf (Counted.Count n) = record { refusal = 0; count = n }
-replyOf (Counted.Refused e) = record { refusal = e; count = 0 }
+-- of each place
+abbrev pub EachSmall : List Place → Type 0
+EachSmall places = (i : ℕ) → Small (getD places i (record { answer = Counted.Count 0 }) .answer)

@@ -1,5 +1,7 @@
 //! The calls for C and Rust: include/metsroeb.h has their signatures. Each returns the refusal's number, 0 for a result; results go to
 //! numbers that the caller lends, 0 beside a refusal.
+use batch::MOST_RECORDS;
+use batch::Place;
 use checks::Checked;
 use checks::Counted;
 use compare::Comparison;
@@ -8,12 +10,20 @@ use icfl::CountedBreaks;
 use summary::Summary;
 ghost use mathlib.Core.Path.{_≡_};
 ghost use Rattle.summary.specs.Summary.{Summarized};
-ghost use Rattle.exports.specs.Exports.{Small, replyOf, TestNumbers, IcflNumbers, BreaksNumbers, CflInNumbers, TableNumbers, ComparisonNumbers, FactorNumbers};
+ghost use Rattle.exports.specs.Exports.{Small, replyOf, EachSmall, repliesOf, TestNumbers, IcflNumbers, BreaksNumbers, BatchNumbers, CflInNumbers, TableNumbers, ComparisonNumbers, FactorNumbers};
 
 /// A count or a refusal, as two numbers.
+#[repr(C)]
 pub struct Reply {
     pub refusal: u8,
     pub count: u16,
+}
+
+/// What a batch comes to: the refusal's number, and a reply for each place.
+#[repr(C)]
+pub struct Replies {
+    pub refusal: u8,
+    pub replies: [Reply; MOST_RECORDS],
 }
 
 fn numbers_of(answer: Counted) -> Reply
@@ -30,6 +40,24 @@ fn numbers_of(answer: Counted) -> Reply
             count: 0,
         },
     }
+}
+
+fn replies_of(places: [Place; MOST_RECORDS]) -> [Reply; MOST_RECORDS]
+    requires { ⌜ EachSmall places ⌝ }
+    ensures { λ r. ⌜ r ≡ repliesOf places ⌝ }
+{
+    let mut replies = [Reply {
+        refusal: 0,
+        count: 0,
+    }; MOST_RECORDS];
+    let mut i: usize = 0;
+    while i < MOST_RECORDS {
+        let place = places[i];
+        let answer = place.answer;
+        replies[i] = numbers_of(answer);
+        i += 1;
+    }
+    replies
 }
 
 #[no_mangle]
@@ -103,6 +131,23 @@ pub extern "C" fn metsroeb_icfl_breaks(
             *break_count = 0;
             e
         }
+    }
+}
+
+#[no_mangle]
+pub extern "C" fn metsroeb_icfl_batch(
+    bytes: &[u8],
+    record_ends: &[u32],
+    work: &mut [u16],
+    ends: &mut [u16],
+) -> Replies
+    ensures { λ r. ⌜ BatchNumbers (now (bytes .entry)) (now («record_ends» .entry)) (now (work .entry)) (now (ends .entry)) r (now (work .exit)) (now (ends .exit)) ⌝ }
+{
+    let answers = batch::icfl_batch(bytes, record_ends, work, ends);
+    let places = answers.places;
+    Replies {
+        refusal: answers.refusal,
+        replies: replies_of(places),
     }
 }
 

@@ -1,0 +1,105 @@
+-- The turns of the loop that cuts the records (Cutting): what is still to be cut, from what has come of those before, leads to the whole batch.
+use mathlib.Core.Path.{_≡_, refl, ap, sym, _∙_}
+use mathlib.Core.Bool.{false}
+use mathlib.Core.List.{List, [], _∷_, _++_, map, map-append, append-assoc}
+use Prim.Native.Nat.{ℕ, suc, _+_, _-_, _≤_, _<_}
+use native.Mathlib.Numerals.{add-one}
+use native.Mathlib.Omega.{arith}
+use lib.ListN.{length, take, drop, getD, set, replicate, length-map, length-append, length-drop, drop-of-length-le}
+use lib.Seq.{slice, drop-cons, set-at, length-take-le}
+use Rattle.buffers.proofs.PartLaws.{part, part-is, rest, rest-is, rest-back}
+use Rattle.checks.specs.Lines.{mostRecords, faultyRecordEnds}
+use Rattle.checks.specs.declared.Counted.{Counted}
+use Rattle.checks.proofs.LineLaws.{filled-front}
+use Rattle.checks.proofs.RecordEndsLaws.{Climbs, climbs-head, climbs-tail, climbs-most, listed}
+use Rattle.icfl.specs.Icfl.{IcflDone}
+use Rattle.batch.specs.Batch.{icflAnswer, icflResult, icflWork, recordsFrom, Progress, entriesUsed, cutRecord, cutRecords, batchOf, placesOf, EachCut}
+use Rattle.batch.specs.declared.Place.{Place}
+
+abbrev pub place : Counted → Place
+place answer = record { answer = answer }
+
+-- one more answer takes the first place past the others
+pub placed-next : (answers : List Counted) (a : Counted) {i : ℕ} → length answers ≡ i → i < mostRecords
+    → set (placesOf answers) i (place a) ≡ placesOf (answers ++ a ∷ [])
+placed-next answers a {i} n l =
+    let m : mostRecords - length answers ≡ suc (mostRecords - length (answers ++ a ∷ [])) = rw (length-append answers (a ∷ [])) (omega arith) in
+    let blank = place (Counted.Count 0) in
+    let rest = replicate (mostRecords - length (answers ++ a ∷ [])) blank in
+    ap (λ (k : ℕ). set (map place answers ++ replicate k blank) i (place a)) m
+    ∙ set-at (map place answers) blank rest (place a) i (length-map answers place ∙ n)
+    ∙ sym (append-assoc (map place answers) (place a ∷ []) rest)
+    ∙ ap (λ (t : List Place). t ++ rest) (sym (map-append place answers (a ∷ [])))
+
+-- an answer uses no more entries than the buffer has
+used-fits : {w work left : List ℕ} {a : Counted} {work₁ left₁ : List ℕ} → IcflDone w work left a work₁ left₁ → entriesUsed a ≤ length left₁
+used-fits {a = Counted.Count n} d = filled-front (d .filled) .1
+used-fits {a = Counted.Refused number} d = omega arith
+
+pub record Cutting (bytes es work₀ ends₀ work ends : List ℕ) (places : List Place) (from used i : ℕ) : Type 0 where
+  pub answers : List Counted
+  pub count : length answers ≡ i
+  pub placed : places ≡ placesOf answers
+  pub on : cutRecords (record { answers = answers; work = work; ends = ends; used = used }) (recordsFrom from (drop i es) bytes) ≡ batchOf bytes es work₀ ends₀
+  pub climbs : Climbs (length bytes) from (drop i es)
+  pub few : length es ≤ mostRecords
+  pub inside : i ≤ length es
+  pub room : used ≤ length ends
+
+pub cutting-starts : (bytes es work ends : List ℕ) {places : List Place} → faultyRecordEnds es (length bytes) ≡ false → places ≡ placesOf []
+    → Cutting bytes es work ends work ends places 0 0 0
+cutting-starts bytes es work ends f z =
+    let l = listed es (length bytes) f in
+    record { answers = []; count = refl; placed = z; on = refl; climbs = l .climbs; few = l .few; inside = omega arith; room = omega arith }
+
+module _ {bytes es work₀ ends₀ work ends : List ℕ} {places : List Place} {from used i : ℕ} (g : Cutting bytes es work₀ ends₀ work ends places from used i) where
+  pub cutting-ends : length es ≤ i → EachCut bytes es work₀ ends₀ places work ends
+  unfolding recordsFrom cutRecords
+  cutting-ends l =
+      let none : drop i es ≡ [] = drop-of-length-le es {i = i} l in
+      let whole = ap (λ (t : List ℕ). cutRecords (record { answers = g .answers; work = work; ends = ends; used = used }) (recordsFrom from t bytes)) (sym none) ∙ g .on in
+      record {
+        placed = g .placed ∙ ap (λ (p : Progress). placesOf (p .answers)) whole;
+        result = ap (λ (p : Progress). p .ends) whole;
+        worked = ap (λ (p : Progress). p .work) whole;
+      }
+
+  module _ (l : i < length es) where
+    next : drop i es ≡ getD es i 0 ∷ drop (i + 1) es
+    next = drop-cons es i 0 l ∙ rw (add-one i) refl
+
+    climbs-on : Climbs (length bytes) from (getD es i 0 ∷ drop (i + 1) es)
+    climbs-on = rw next at (g .climbs)
+
+    -- the record's first place and its end
+    pub record-from : from ≤ getD es i 0
+    record-from = climbs-head climbs-on
+
+    pub record-end : getD es i 0 ≤ length bytes
+    record-end = climbs-most (climbs-tail climbs-on)
+
+    pub cutting-on : {a : Counted} {work₁ left₁ : List ℕ} → IcflDone (slice from (getD es i 0) bytes) work (drop used ends) a work₁ left₁
+        → Cutting bytes es work₀ ends₀ work₁ (take used ends ++ left₁) (set places i (place a)) (getD es i 0) (used + entriesUsed a) (i + 1)
+    unfolding recordsFrom cutRecords cutRecord
+    cutting-on {a} {work₁} {left₁} d = record {
+      answers = g .answers ++ a ∷ [];
+      count = length-append (g .answers) (a ∷ []) ∙ omega (arith, g .count);
+      placed = ap (λ (t : List Place). set t i (place a)) (g .placed) ∙ placed-next (g .answers) a (g .count) (omega (arith, g .few));
+      on = rw (d .filled .answer, d .filled .result, d .worked)
+          (ap (λ (t : List ℕ). cutRecords (record { answers = g .answers; work = work; ends = ends; used = used }) (recordsFrom from t bytes)) (sym next) ∙ g .on);
+      climbs = climbs-tail climbs-on;
+      few = g .few;
+      inside = omega arith;
+      room = rw (length-append (take used ends) left₁, length-take-le used ends (g .room)) (omega (arith, used-fits d));
+    }
+
+    -- the same, as the code lends the record and what is left of the result buffer
+    pub lent-on : {a : Counted} {n : ℕ} {work₁ left₁ : List ℕ} → IcflDone (part from (getD es i 0) bytes) work (rest used ends) a work₁ left₁ → n ≡ entriesUsed a
+        → Cutting bytes es work₀ ends₀ work₁ (take used ends ++ (left₁ ++ drop (length ends - used) (drop used ends))) (set places i (place a)) (getD es i 0) (used + n)
+        (i + 1)
+    lent-on {left₁ = left₁} d z = rw (rest-back used ends left₁, z) (cutting-on (rw (part-is from (getD es i 0) bytes, rest-is used ends) at d))
+
+    -- the entries that it uses are among those left
+    pub lent-room : {a : Counted} {n : ℕ} {work₁ left₁ : List ℕ} → IcflDone (part from (getD es i 0) bytes) work (rest used ends) a work₁ left₁ → n ≡ entriesUsed a
+        → length left₁ ≡ length (rest used ends) → used + n ≤ length ends
+    lent-room d z k = omega (arith, z, k, used-fits d, ap length (rest-is used ends), length-drop used ends, g .room)

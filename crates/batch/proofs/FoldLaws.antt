@@ -1,0 +1,158 @@
+-- The fold over the records: the answers it adds (added, batch-answers), of which each is a single call's (every-added); and what it leaves of both buffers, said
+-- of all records at once (folded-ends, folded-work).
+use mathlib.Core.Path.{_≡_, refl, ap, sym, _∙_}
+use mathlib.Core.Bool.{Bool, true, false}
+use mathlib.Core.List.{List, [], _∷_, _++_, append-assoc, append-nil}
+use Prim.Native.Nat.{ℕ, suc, _+_, _*_, _≤_, max}
+use native.Mathlib.Nat.{add-zero}
+use native.Mathlib.Omega.{arith}
+use lib.ListN.{length, take, drop, take-append-drop, length-append}
+use lib.Seq.{take-at, drop-at, drop-drop, length-take-le}
+use lib.Dec.{eqb}
+use Rattle.words.specs.Separated.{separatedIcflEnds}
+use Rattle.buffers.specs.Buffers.{cleared, written}
+use Rattle.buffers.proofs.BufferLaws.{cleared-twice}
+use Rattle.checks.specs.Lines.{Line, tried, decided}
+use Rattle.checks.specs.declared.Checked.{Checked}
+use Rattle.checks.specs.declared.Checked.the-variants.{Passed, Refused}
+use Rattle.checks.specs.declared.Counted.{Counted}
+use Rattle.icfl.specs.Icfl.{icflLines, workAfter}
+use Rattle.batch.specs.Batch.{icflAnswer, icflResult, icflWork, Progress, entriesUsed, cutRecord, cutRecords, recordsFrom, uncut, batchOf}
+use Rattle.batch.specs.BatchStatements.{wasCut, longestCut, packedEnds}
+
+-- ---- the answers
+
+-- what is left of the result buffer
+abbrev pub left : Progress → List ℕ
+left p = drop (p .used) (p .ends)
+
+-- the answers that the records add
+unfoldable pub added : Progress → List (List ℕ) → List Counted
+unfolding cutRecord
+added p [] = []
+added p (w ∷ ws) = icflAnswer w (p .work) (left p) ∷ added (cutRecord p w) ws
+
+pub answers-split : (p : Progress) (ws : List (List ℕ)) → cutRecords p ws .answers ≡ p .answers ++ added p ws
+unfolding added cutRecords cutRecord
+answers-split p [] = sym (append-nil (p .answers))
+answers-split p (w ∷ ws) = answers-split (cutRecord p w) ws ∙ append-assoc (p .answers) _ (added (cutRecord p w) ws)
+
+pub batch-answers : (bytes es work ends : List ℕ) → batchOf bytes es work ends .answers ≡ added (uncut work ends) (recordsFrom 0 es bytes)
+batch-answers bytes es work ends = answers-split (uncut work ends) (recordsFrom 0 es bytes)
+
+pub added-length : (p : Progress) (ws : List (List ℕ)) → length (added p ws) ≡ length ws
+unfolding added
+added-length p [] = refl
+added-length p (w ∷ ws) = ap suc (added-length (cutRecord p w) ws)
+
+-- P holds of each answer
+abbrev pub Every : (Counted → Type 0) → List Counted → Type 0
+Every P [] = Unit {0}
+Every P (a ∷ answers) = P a × Every P answers
+
+pub every-added : (P : Counted → Type 0) → ((w work ends : List ℕ) → P (icflAnswer w work ends)) → (p : Progress) (ws : List (List ℕ)) → Every P (added p ws)
+unfolding added
+every-added P h p [] = tt
+every-added P h p (w ∷ ws) = (h w (p .work) (left p), every-added P h (cutRecord p w) ws)
+
+-- ---- the work buffer
+
+-- one record
+single-work : (w work ends : List ℕ)
+    → icflWork w work ends ≡ cleared (3 * (elim (wasCut (icflAnswer w work ends)) [ true ↦ length w | false ↦ 0 ])) work
+single-work w work ends = go (tried (icflLines w (length work) (length ends)))
+  where
+    by-four : (t : Bool) → elim t [ true ↦ cleared (3 * length w) work | false ↦ work ] ≡ cleared (3 * (elim t [ true ↦ length w | false ↦ 0 ])) work
+    by-four true = refl
+    by-four false = refl
+
+    go : (k : Checked) → decided k (cleared (3 * length w) work) (workAfter (3 * length w) work)
+        ≡ cleared (3 * (elim (wasCut (decided k (Counted.Count (length (separatedIcflEnds w))) Counted.Refused)) [ true ↦ length w | false ↦ 0 ])) work
+    go Passed = refl
+    go (Refused number) = by-four (eqb number 4)
+
+pub folded-work : (p : Progress) (ws : List (List ℕ)) → cutRecords p ws .work ≡ cleared (3 * longestCut ws (added p ws)) (p .work)
+unfolding added cutRecords cutRecord longestCut
+folded-work p [] = refl
+folded-work p (w ∷ ws) =
+    let n = elim (wasCut (icflAnswer w (p .work) (left p))) as (λ t. ℕ) [ true ↦ length w | false ↦ 0 ] in
+    let m = longestCut ws (added (cutRecord p w) ws) in
+    let z : max (3 * n) (3 * m) ≡ 3 * max n m = omega arith in
+    folded-work (cutRecord p w) ws
+    ∙ ap (cleared (3 * m)) (single-work w (p .work) (left p))
+    ∙ cleared-twice (3 * n) (3 * m) (p .work)
+    ∙ ap (λ (k : ℕ). cleared k (p .work)) z
+
+-- ---- the result buffer: vs stand behind the first u entries, and rest behind these
+
+module _ (u : ℕ) (ends vs : List ℕ) (l : u ≤ length ends) where
+  behind-length : length (take u ends ++ vs) ≡ u + length vs
+  behind-length = length-append (take u ends) vs ∙ omega (arith, length-take-le u ends l)
+
+  again : take u ends ++ written vs (drop u ends) ≡ (take u ends ++ vs) ++ drop (length vs) (drop u ends)
+  again = sym (append-assoc (take u ends) vs (drop (length vs) (drop u ends)))
+
+  pub written-take : take (u + length vs) (take u ends ++ written vs (drop u ends)) ≡ take u ends ++ vs
+  written-take = ap (take (u + length vs)) again ∙ take-at (take u ends ++ vs) _ (u + length vs) behind-length
+
+  pub written-drop : drop (u + length vs) (take u ends ++ written vs (drop u ends)) ≡ drop (length vs) (drop u ends)
+  written-drop = ap (drop (u + length vs)) again ∙ drop-at (take u ends ++ vs) _ (u + length vs) behind-length
+
+-- one list after another is written as the two joined
+written-both : (vs ws buffer : List ℕ) → vs ++ written ws (drop (length vs) buffer) ≡ written (vs ++ ws) buffer
+written-both vs ws buffer =
+    sym (append-assoc vs ws (drop (length ws) (drop (length vs) buffer)))
+    ∙ ap (λ (t : List ℕ). (vs ++ ws) ++ t) (drop-drop (length ws) (length vs) buffer ∙ ap (λ (n : ℕ). drop n buffer) (sym (length-append vs ws)))
+
+-- ---- the fold, with what the single call's lines say set apart
+
+-- no more is used than there is
+abbrev pub Fits : Progress → Type 0
+Fits p = p .used ≤ length (p .ends)
+
+abbrev pub linesOf : Progress → List ℕ → List Line
+linesOf p w = icflLines w (length (p .work)) (length (left p))
+
+abbrev pub answerBy : Checked → List ℕ → Counted
+answerBy k w = decided k (Counted.Count (length (separatedIcflEnds w))) Counted.Refused
+
+-- the next record, where the lines say k
+abbrev pub cutBy : Checked → Progress → List ℕ → Progress
+cutBy k p w = record {
+  answers = p .answers ++ answerBy k w ∷ [];
+  work = decided k (cleared (3 * length w) (p .work)) (workAfter (3 * length w) (p .work));
+  ends = take (p .used) (p .ends) ++ decided k (written (separatedIcflEnds w) (left p)) (λ number. left p);
+  used = p .used + entriesUsed (answerBy k w);
+}
+
+pub cut-by : (p : Progress) (w : List ℕ) → cutRecord p w ≡ cutBy (tried (linesOf p w)) p w
+unfolding cutRecord
+cut-by p w = refl
+
+pub fits-by : (k : Checked) (p : Progress) (w : List ℕ) → Fits p → Fits (cutBy k p w)
+fits-by Passed p w l = rw (again (p .used) (p .ends) (separatedIcflEnds w) l, length-append, behind-length (p .used) (p .ends) (separatedIcflEnds w) l) (omega arith)
+fits-by (Refused number) p w l = rw (take-append-drop (p .used) (p .ends)) (omega (arith, l))
+
+pub folded-ends : (p : Progress) (ws : List (List ℕ)) → Fits p
+    → cutRecords p ws .ends ≡ take (p .used) (p .ends) ++ written (packedEnds ws (added p ws)) (left p)
+unfolding added cutRecords cutRecord packedEnds
+folded-ends p [] l = sym (take-append-drop (p .used) (p .ends))
+folded-ends p (w ∷ ws) l = go (tried (linesOf p w)) (folded-ends (cutRecord p w) ws (fits-by (tried (linesOf p w)) p w l))
+  where
+    go : (k : Checked) → (let q = cutBy k p w in
+        cutRecords q ws .ends ≡ take (q .used) (q .ends) ++ written (packedEnds ws (added q ws)) (left q)
+        → cutRecords q ws .ends ≡ take (p .used) (p .ends) ++ written (packedEnds (w ∷ ws) (answerBy k w ∷ added q ws)) (left p))
+    go Passed ih =
+        let u = p .used in
+        let vs = separatedIcflEnds w in
+        let more = packedEnds ws (added (cutBy Passed p w) ws) in
+        ih
+        ∙ ap (λ (t : List ℕ). t ++ written more (left (cutBy Passed p w))) (written-take u (p .ends) vs l)
+        ∙ ap (λ (t : List ℕ). (take u (p .ends) ++ vs) ++ written more t) (written-drop u (p .ends) vs l)
+        ∙ append-assoc (take u (p .ends)) vs (written more (drop (length vs) (left p)))
+        ∙ ap (λ (t : List ℕ). take u (p .ends) ++ t) (written-both vs more (left p))
+    go (Refused number) ih =
+        let more = packedEnds ws (added (cutBy (Refused number) p w) ws) in
+        ih
+        ∙ ap (λ (t : List ℕ). take (p .used + 0) t ++ written more (drop (p .used + 0) t)) (take-append-drop (p .used) (p .ends))
+        ∙ ap (λ (n : ℕ). take n (p .ends) ++ written more (drop n (p .ends))) (add-zero (p .used))

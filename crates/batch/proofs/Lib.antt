@@ -1,0 +1,4 @@
+pub mod Cutting
+pub mod BatchCases
+pub mod FoldLaws
+pub mod BatchLaws

@@ -1,0 +1,34 @@
+-- DEFINITIONS. What a batch leaves in its two buffers, said of all its records at once (Left). That the promise says as much is a theorem (proofs/BatchLaws,
+-- batch-left).
+use mathlib.Core.Path.{_≡_}
+use mathlib.Core.Bool.{Bool, true, false}
+use mathlib.Core.List.{List, [], _∷_, _++_}
+use Prim.Native.Nat.{ℕ, _*_, max}
+use lib.ListN.{length}
+use lib.Dec.{eqb}
+use Rattle.words.specs.Separated.{separatedIcflEnds}
+use Rattle.buffers.specs.Buffers.{cleared, written}
+use Rattle.checks.specs.declared.Counted.{Counted}
+
+-- a record that was cut, or refused by 4 once it had been
+abbrev pub wasCut : Counted → Bool
+wasCut (Counted.Count n) = true
+wasCut (Counted.Refused number) = eqb number 4
+
+-- the length of the longest such record, for records and their answers; 0 if there is none
+unfoldable pub longestCut : List (List ℕ) → List Counted → ℕ
+longestCut [] answers = 0
+longestCut (w ∷ ws) [] = 0
+longestCut (w ∷ ws) (a ∷ answers) = max (elim (wasCut a) [ true ↦ length w | false ↦ 0 ]) (longestCut ws answers)
+
+-- the ends of the records with a result, one after another: "Ends are counted within their own record."
+unfoldable pub packedEnds : List (List ℕ) → List Counted → List ℕ
+packedEnds [] answers = []
+packedEnds (w ∷ ws) [] = []
+packedEnds (w ∷ ws) (Counted.Count n ∷ answers) = separatedIcflEnds w ++ packedEnds ws answers
+packedEnds (w ∷ ws) (Counted.Refused number ∷ answers) = packedEnds ws answers
+
+-- the result buffer has these from entry 0 on, and the work buffer is zero as far as the longest record reached; both are otherwise as they were
+pub record Left (records : List (List ℕ)) (answers : List Counted) (work ends work′ ends′ : List ℕ) : Type 0 where
+  pub result : ends′ ≡ written (packedEnds records answers) ends
+  pub zeros : work′ ≡ cleared (3 * longestCut records answers) work

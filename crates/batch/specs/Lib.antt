@@ -1,0 +1,3 @@
+pub mod Batch
+pub mod BatchStatements
+pub mod Examples

@@ -1,0 +1,78 @@
+-- THEOREM card-answered: the answers for the records of a card are those of single calls, one after another (request 105). It holds of all calls that answer and
+-- whose answers meet the promises.
+use mathlib.Core.Path.{_≡_, refl, ap, sym, _∙_}
+use mathlib.Core.List.{List, [], _∷_, _++_, append-assoc, List·Memᴰ, List·Memᴰ·head, List·Memᴰ·tail}
+use Prim.Native.Nat.{ℕ, _+_, _≤_}
+use native.Mathlib.Omega.{arith}
+use lib.ListN.{length, take, drop, length-append}
+use lib.Seq.{take-append-add, drop-append-add, drop-at, length-take-le}
+use Rattle.buffers.specs.Buffers.{written}
+use Rattle.checks.specs.Lines.{tried}
+use Rattle.checks.specs.declared.Checked.the-variants.{Passed}
+use Rattle.checks.specs.declared.Counted.{Counted}
+use Rattle.batch.specs.declared.Batch.{Batch}
+use Rattle.batch.specs.Batch.{icflAnswer, icflResult, icflWork, recordsFrom, Progress, entriesUsed, cutRecord, cutRecords, uncut, batchOf, batchLines, BatchDone}
+use Rattle.batch.specs.BatchStatements.{packedEnds}
+use Rattle.batch.proofs.FoldLaws.{left, added, batch-answers, Every, Fits, linesOf, fits-by, folded-ends}
+use Rattle.batch.proofs.BatchLaws.{batch-left, no-fours}
+use Rattle.demands.specs.Demands.{Calls, Singly, none, next, CardAnswered}
+use Rattle.demands.specs.Meets.{Meets, Total}
+
+-- a part of n entries behind the first u, and what follows it
+module _ (u n : ℕ) (xs ys : List ℕ) (l : u ≤ length xs) where
+  front : length (take u xs) ≡ u
+  front = length-take-le u xs l
+
+  pub drop-behind : drop (u + n) (take u xs ++ ys) ≡ drop n ys
+  drop-behind = ap (λ (k : ℕ). drop (k + n) (take u xs ++ ys)) (sym front) ∙ drop-append-add (take u xs) ys n
+
+  pub take-behind : take (u + n) (take u xs ++ ys) ≡ take u xs ++ take n ys
+  take-behind = ap (λ (k : ℕ). take (k + n) (take u xs ++ ys)) (sym front) ∙ take-append-add (take u xs) ys n
+
+  pub parts-behind : (zs es : List ℕ) → n ≤ length ys → es ≡ take (u + n) (take u xs ++ ys) ++ zs → drop u es ≡ take n ys ++ drop (u + n) es
+  parts-behind zs es k e =
+      let whole : es ≡ take u xs ++ (take n ys ++ zs) = e ∙ ap (λ (t : List ℕ). t ++ zs) take-behind ∙ append-assoc (take u xs) (take n ys) zs in
+      let size : length (take u xs ++ take n ys) ≡ u + n = length-append (take u xs) (take n ys) ∙ omega (arith, front, length-take-le n ys k) in
+      let later : drop (u + n) es ≡ zs =
+          ap (drop (u + n)) (whole ∙ sym (append-assoc (take u xs) (take n ys) zs)) ∙ drop-at (take u xs ++ take n ys) zs (u + n) size
+      in
+      ap (drop u) whole ∙ drop-at (take u xs) (take n ys ++ zs) u front ∙ ap (λ (t : List ℕ). take n ys ++ t) (sym later)
+
+every-member : (P : Counted → Type 0) (answers : List Counted) → Every P answers → (a : Counted) → List·Memᴰ a answers → P a
+every-member P (x ∷ answers) h a (List·Memᴰ·head e) = rw e (h .0)
+every-member P (x ∷ answers) h a (List·Memᴰ·tail m) = every-member P answers (h .1) a m
+
+module _ (c : Calls) (m : Meets c) (t : Total c) where
+  single : (w work ends : List ℕ) → c .PieceCut w work ends (icflAnswer w work ends) (icflWork w work ends) (icflResult w work ends)
+  single w work ends =
+      let a = t .pieceCut w work ends in
+      let d = m .pieceCut w work ends (a .0) (a .1) (a .2) (a .3) in
+      rw (d .filled .answer, d .worked, d .filled .result) at (a .3)
+
+  singly : (p : Progress) (ws : List (List ℕ)) → Fits p
+      → Singly c ws (p .work) (left p) (added p ws) (cutRecords p ws .work) (drop (p .used) (cutRecords p ws .ends))
+  unfolding added cutRecords cutRecord
+  singly p [] l = none
+  singly p (w ∷ ws) l =
+      let q = cutRecord p w in
+      let result = icflResult w (p .work) (left p) in
+      let n = entriesUsed (icflAnswer w (p .work) (left p)) in
+      let fits : Fits q = fits-by (tried (linesOf p w)) p w l in
+      let room : n ≤ length result = omega (arith, fits, length-append (take (p .used) (p .ends)) result, length-take-le (p .used) (p .ends) l) in
+      let later : Singly c ws (q .work) (drop n result) (added q ws) (cutRecords q ws .work) (drop (q .used) (cutRecords q ws .ends)) =
+          rw (drop-behind (p .used) n (p .ends) result l) at (singly q ws fits)
+      in
+      rw (parts-behind (p .used) n (p .ends) result l (written (packedEnds ws (added q ws)) (left q)) (cutRecords q ws .ends) room (folded-ends q ws fits))
+      (next (single w (p .work) (left p)) later)
+
+  pub card-answered : (bytes es work ends work′ ends′ : List ℕ) (r : Batch) → BatchDone bytes es work ends r work′ ends′
+      → tried (batchLines es (length bytes)) ≡ Passed → CardAnswered c bytes es work ends r work′ ends′
+  card-answered bytes es work ends work′ ends′ r d p =
+      let records = recordsFrom 0 es bytes in
+      record {
+        answers = batchOf bytes es work ends .answers;
+        places = ap (λ (b : Batch). b .places) (rw p at (d .answer));
+        singly = rw (rw p at (d .worked), rw p at (d .result), batch-answers bytes es work ends) (singly (uncut work ends) records (omega arith));
+        left = batch-left d p;
+        enough = λ l. every-member (λ a. ¬ (a ≡ Counted.Refused 4)) (batchOf bytes es work ends .answers) (no-fours bytes es work ends p l);
+      }
