@@ -9,7 +9,7 @@ use Rattle.checks.specs.Answers.{numberOf}
 use Rattle.checks.specs.declared.Checked.{Checked}
 use Rattle.checks.specs.declared.Checked.the-variants.{Passed}
 use Rattle.checks.proofs.LineLaws.{IsRefused, refused, unmet}
-use Rattle.batch.specs.Batch.{batchOf, placesOf, batchLines, BatchDone, EachCut}
+use Rattle.batch.specs.Batch.{placesOf, batchLines, BatchDone, EachCut}
 use Rattle.batch.specs.declared.Batch.{Batch}
 use Rattle.batch.specs.declared.Place.{Place}
 

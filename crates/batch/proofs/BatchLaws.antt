@@ -7,35 +7,22 @@ use mathlib.Core.List.{List, [], _∷_, _++_, List·Memᴰ, List·Memᴰ·head, 
 use Prim.Native.Nat.{ℕ, _+_, _-_, _≤_}
 use native.Mathlib.Nat.{add-zero}
 use native.Mathlib.Omega.{arith}
-use lib.ListN.{length, drop, take-append-drop, length-drop}
+use lib.ListN.{length, take-append-drop, length-drop}
 use lib.Seq.{slice, take-all, length-slice}
 use borrow.Author.Tests.{le-ltb, eq-eqb}
 use Rattle.words.specs.Separated.{separatedIcflEnds}
 use Rattle.words.specs.places.EndsRise.{rises-few}
 use Rattle.words.specs.stretches.Factors.{separated-icfl-ends-rise}
-use Rattle.checks.specs.Lines.{Line, tried, decided, resultLine, lastOf, mostRecords, falls, faultyRecordEnds}
+use Rattle.checks.specs.Lines.{tried, decided, resultLine, lastOf, falls, faultyRecordEnds}
 use Rattle.checks.specs.Answers.{numberOf, countChecked}
 use Rattle.checks.specs.declared.Checked.{Checked}
 use Rattle.checks.specs.declared.Checked.the-variants.{Passed, Refused}
 use Rattle.checks.specs.declared.Counted.{Counted}
 use Rattle.checks.proofs.LineLaws.{not-both, all-pass, first-alone, first-listed, unmet}
 use Rattle.checks.proofs.RecordEndsLaws.{Climbs, climbs-head, climbs-tail, climbs-most, listed}
-use Rattle.icfl.specs.Icfl.{icflAdmission, icflLines, IcflDone}
-use Rattle.batch.specs.Batch.{
-  icflAnswer,
-  icflResult,
-  icflWork,
-  recordsFrom,
-  Progress,
-  cutRecord,
-  cutRecords,
-  uncut,
-  batchOf,
-  placesOf,
-  batchLines,
-  BatchDone,
-}
-use Rattle.batch.specs.BatchStatements.{packedEnds, longestCut, Left}
+use Rattle.icfl.specs.Icfl.{icflAdmission, IcflDone}
+use Rattle.batch.specs.Batch.{icflAnswer, recordsFrom, Progress, cutRecord, cutRecords, uncut, batchOf, placesOf, batchLines, BatchDone}
+use Rattle.batch.specs.BatchStatements.{Left}
 use Rattle.batch.specs.declared.Batch.{Batch}
 use Rattle.batch.proofs.FoldLaws.{left, added, batch-answers, Every, folded-work, folded-ends, written-drop, Fits, linesOf, cutBy, fits-by}
 
@@ -68,10 +55,12 @@ single-fits w work ends l x =
     said : (k : Checked) → countChecked (decided k (Counted.Count (length (separatedIcflEnds w))) Counted.Refused) ≡ k
     said Passed = refl
     said (Refused number) = refl
+
     unlisted : ¬ List·Memᴰ {A = ℕ} 4 (1 ∷ 2 ∷ 3 ∷ [])
     unlisted (List·Memᴰ·head e) = omega arith
     unlisted (List·Memᴰ·tail (List·Memᴰ·head e)) = omega arith
     unlisted (List·Memᴰ·tail (List·Memᴰ·tail (List·Memᴰ·head e))) = omega arith
+
     go : {k : Checked} → k ≡ Refused 4 → ((k ≡ Passed) ⊎ List·Memᴰ (numberOf k) (1 ∷ 2 ∷ 3 ∷ [])) → ⊥
     go e (inl p) = not-both e p
     go e (inr m) = unlisted (rw e at m)
@@ -80,7 +69,7 @@ single-fits w work ends l x =
 left-by : (k : Checked) (p : Progress) (w : List ℕ) → Fits p → length (left p) ≤ length (left (cutBy k p w)) + length w
 left-by Passed p w l =
     let n : length (left (cutBy Passed p w)) ≡ length (left p) - length (separatedIcflEnds w) =
-        ap length (written-drop (p .used) (p .ends) (separatedIcflEnds w) l) ∙ length-drop (length (separatedIcflEnds w)) (left p)
+    ap length (written-drop (p .used) (p .ends) (separatedIcflEnds w) l) ∙ length-drop (length (separatedIcflEnds w)) (left p)
     in
     omega (arith, n, few-ends w)
 left-by (Refused number) p w l = rw (take-append-drop (p .used) (p .ends), add-zero (p .used)) (omega arith)
@@ -92,10 +81,11 @@ enough-left bytes from [] p c f l = tt
 enough-left bytes from (e ∷ es) p c f l =
     let w = slice from e bytes in
     let n : length w ≡ e - from = length-slice from e bytes (climbs-most (climbs-tail c)) in
-    let most : e ≤ length bytes = climbs-most (climbs-tail c) in
-    (single-fits w (p .work) (left p) (omega (arith, n, most, l)),
-    enough-left bytes e es (cutRecord p w) (climbs-tail c) (fits-by (tried (linesOf p w)) p w f)
-    (omega (arith, n, l, climbs-head c, left-by (tried (linesOf p w)) p w f)))
+    let most : e ≤ length bytes = climbs-most (climbs-tail c) in (
+      single-fits w (p .work) (left p) (omega (arith, n, most, l)),
+      enough-left bytes e es (cutRecord p w) (climbs-tail c) (fits-by (tried (linesOf p w)) p w f)
+          (omega (arith, n, l, climbs-head c, left-by (tried (linesOf p w)) p w f)),
+    )
 
 pub no-fours : (bytes es work ends : List ℕ) → tried (batchLines es (length bytes)) ≡ Passed → length bytes ≤ length ends
     → Every NotByFour (batchOf bytes es work ends .answers)
@@ -125,7 +115,8 @@ module _ (w work ends : List ℕ) where
     record {
       filled = record { answer = refl; result = (rw (one-passes w) at (d .result)) ∙ ap (λ (p : Progress). p .ends) one-cut };
       worked = (rw (one-passes w) at (d .worked)) ∙ ap (λ (p : Progress). p .work) one-cut;
-    })
+    },
+  )
 
   pub batch-single : {a : Counted} {work′ ends′ : List ℕ} → IcflDone w work ends a work′ ends′
       → BatchDone w (length w ∷ []) work ends (record { refusal = 0; places = placesOf (a ∷ []) }) work′ ends′

@@ -13,7 +13,7 @@ use Rattle.checks.specs.declared.Counted.{Counted}
 use Rattle.checks.proofs.LineLaws.{filled-front}
 use Rattle.checks.proofs.RecordEndsLaws.{Climbs, climbs-head, climbs-tail, climbs-most, listed}
 use Rattle.icfl.specs.Icfl.{IcflDone}
-use Rattle.batch.specs.Batch.{icflAnswer, icflResult, icflWork, recordsFrom, Progress, entriesUsed, cutRecord, cutRecords, batchOf, placesOf, EachCut}
+use Rattle.batch.specs.Batch.{recordsFrom, Progress, entriesUsed, cutRecord, cutRecords, batchOf, placesOf, EachCut}
 use Rattle.batch.specs.declared.Place.{Place}
 
 abbrev pub place : Counted → Place
@@ -64,6 +64,11 @@ module _ {bytes es work₀ ends₀ work ends : List ℕ} {places : List Place} {
         worked = ap (λ (p : Progress). p .work) whole;
       }
 
+  -- the entries that the next answer uses are among those left
+  pub lent-room : {w : List ℕ} {a : Counted} {n : ℕ} {work₁ left₁ : List ℕ} → IcflDone w work (rest used ends) a work₁ left₁ → n ≡ entriesUsed a
+      → length left₁ ≡ length (rest used ends) → used + n ≤ length ends
+  lent-room d z k = omega (arith, z, k, used-fits d, ap length (rest-is used ends), length-drop used ends, g .room)
+
   module _ (l : i < length es) where
     next : drop i es ≡ getD es i 0 ∷ drop (i + 1) es
     next = drop-cons es i 0 l ∙ rw (add-one i) refl
@@ -98,8 +103,3 @@ module _ {bytes es work₀ ends₀ work ends : List ℕ} {places : List Place} {
         → Cutting bytes es work₀ ends₀ work₁ (take used ends ++ (left₁ ++ drop (length ends - used) (drop used ends))) (set places i (place a)) (getD es i 0) (used + n)
         (i + 1)
     lent-on {left₁ = left₁} d z = rw (rest-back used ends left₁, z) (cutting-on (rw (part-is from (getD es i 0) bytes, rest-is used ends) at d))
-
-    -- the entries that it uses are among those left
-    pub lent-room : {a : Counted} {n : ℕ} {work₁ left₁ : List ℕ} → IcflDone (part from (getD es i 0) bytes) work (rest used ends) a work₁ left₁ → n ≡ entriesUsed a
-        → length left₁ ≡ length (rest used ends) → used + n ≤ length ends
-    lent-room d z k = omega (arith, z, k, used-fits d, ap length (rest-is used ends), length-drop used ends, g .room)

@@ -17,7 +17,7 @@ use Rattle.checks.specs.declared.Checked.{Checked}
 use Rattle.checks.specs.declared.Checked.the-variants.{Passed, Refused}
 use Rattle.checks.specs.declared.Counted.{Counted}
 use Rattle.icfl.specs.Icfl.{icflLines, workAfter}
-use Rattle.batch.specs.Batch.{icflAnswer, icflResult, icflWork, Progress, entriesUsed, cutRecord, cutRecords, recordsFrom, uncut, batchOf}
+use Rattle.batch.specs.Batch.{icflAnswer, icflWork, Progress, entriesUsed, cutRecord, cutRecords, recordsFrom, uncut, batchOf}
 use Rattle.batch.specs.BatchStatements.{wasCut, longestCut, packedEnds}
 
 -- ---- the answers

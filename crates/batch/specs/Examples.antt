@@ -2,8 +2,7 @@
 -- by 4 before a shorter one that fits; and which lists of record ends are faulty.
 use mathlib.Core.Path.{_≡_, refl}
 use mathlib.Core.Bool.{true, false}
-use mathlib.Core.List.{List, [], _∷_}
-use Prim.Native.Nat.{ℕ}
+use mathlib.Core.List.{[], _∷_}
 use lib.ListN.{replicate}
 use Rattle.words.specs.Separated.{separatedIcflEnds}
 use Rattle.checks.specs.Lines.{tried, lastOf, falls, faultyRecordEnds}

@@ -1,6 +1,6 @@
 -- Line 10. A list of record ends that passes climbs from 0 to the number of bytes, with equal neighbours allowed (listed); and the turns of the loop that goes
 -- over it (Climbing): whether it falls, and its last end, are those of what is left after the last end.
-use mathlib.Core.Path.{_≡_, refl, ap, sym, _∙_}
+use mathlib.Core.Path.{_≡_, refl, ap, _∙_}
 use mathlib.Core.Bool.{true, false, not, _||_, true≢false}
 use mathlib.Core.List.{List, [], _∷_}
 use Prim.Native.Nat.{ℕ, _+_, _≤_, _<_}

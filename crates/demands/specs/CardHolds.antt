@@ -1,6 +1,6 @@
 -- THEOREM card-answered: the answers for the records of a card are those of single calls, one after another (request 105). It holds of all calls that answer and
 -- whose answers meet the promises.
-use mathlib.Core.Path.{_≡_, refl, ap, sym, _∙_}
+use mathlib.Core.Path.{_≡_, ap, sym, _∙_}
 use mathlib.Core.List.{List, [], _∷_, _++_, append-assoc, List·Memᴰ, List·Memᴰ·head, List·Memᴰ·tail}
 use Prim.Native.Nat.{ℕ, _+_, _≤_}
 use native.Mathlib.Omega.{arith}
@@ -34,7 +34,7 @@ module _ (u n : ℕ) (xs ys : List ℕ) (l : u ≤ length xs) where
       let whole : es ≡ take u xs ++ (take n ys ++ zs) = e ∙ ap (λ (t : List ℕ). t ++ zs) take-behind ∙ append-assoc (take u xs) (take n ys) zs in
       let size : length (take u xs ++ take n ys) ≡ u + n = length-append (take u xs) (take n ys) ∙ omega (arith, front, length-take-le n ys k) in
       let later : drop (u + n) es ≡ zs =
-          ap (drop (u + n)) (whole ∙ sym (append-assoc (take u xs) (take n ys) zs)) ∙ drop-at (take u xs ++ take n ys) zs (u + n) size
+      ap (drop (u + n)) (whole ∙ sym (append-assoc (take u xs) (take n ys) zs)) ∙ drop-at (take u xs ++ take n ys) zs (u + n) size
       in
       ap (drop u) whole ∙ drop-at (take u xs) (take n ys ++ zs) u front ∙ ap (λ (t : List ℕ). take n ys ++ t) (sym later)
 
@@ -60,7 +60,7 @@ module _ (c : Calls) (m : Meets c) (t : Total c) where
       let fits : Fits q = fits-by (tried (linesOf p w)) p w l in
       let room : n ≤ length result = omega (arith, fits, length-append (take (p .used) (p .ends)) result, length-take-le (p .used) (p .ends) l) in
       let later : Singly c ws (q .work) (drop n result) (added q ws) (cutRecords q ws .work) (drop (q .used) (cutRecords q ws .ends)) =
-          rw (drop-behind (p .used) n (p .ends) result l) at (singly q ws fits)
+      rw (drop-behind (p .used) n (p .ends) result l) at (singly q ws fits)
       in
       rw (parts-behind (p .used) n (p .ends) result l (written (packedEnds ws (added q ws)) (left q)) (cutRecords q ws .ends) room (folded-ends q ws fits))
       (next (single w (p .work) (left p)) later)

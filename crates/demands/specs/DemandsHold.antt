@@ -136,9 +136,12 @@ module _ (c : Calls) (m : Meets c) where
         (answers _ _ says refl refl, untouched _ _ _ says (f .ends-are), untouched _ _ _ says (f .breaks-are), untouched-but-4 _ _ _ says (f .worked));
     card = λ bytes es work ends work′ ends′ r h.
         let f = m .card bytes es work ends r work′ ends′ h in
-        let says = card-says f in
-        (numbered-answers _ _ (card-number f) refl refl, untouched _ _ _ says (f .result), untouched _ _ _ says (f .worked),
-        (λ e y. ap (λ (b : Batch). b .places) (rw (sym says ∙ y) at (f .answer))));
+        let says = card-says f in (
+          numbered-answers _ _ (card-number f) refl refl,
+          untouched _ _ _ says (f .result),
+          untouched _ _ _ says (f .worked),
+          (λ e y. ap (λ (b : Batch). b .places) (rw (sym says ∙ y) at (f .answer))),
+        );
     strictCut = λ w ends ends′ r h.
         let f = m .strictCut w ends r ends′ h in
         (answers _ _ (filled-says f) refl refl, untouched _ _ _ (filled-says f) (f .result));

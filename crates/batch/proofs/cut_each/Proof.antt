@@ -32,7 +32,7 @@ cast-end : tie.Need-cast-end Inv-loop μ-loop
 cast-end c = omega (arith, c .shared-slice-known3 .given (c .before .before .loop .i) .fits)
 
 sub-icfl : tie.Need-sub-icfl Inv-loop μ-loop
-sub-icfl c = let turn = c .before in record-from (turn .before .loop .inv .0) (turn .loop-test .taken)
+sub-icfl c = let turn = c .before in omega (arith, record-from (turn .before .loop .inv .0) (turn .loop-test .taken))
 
 part-icfl-start : tie.Need-part-icfl-start Inv-loop μ-loop
 part-icfl-start c = let turn = c .before in omega (arith, record-from (turn .before .loop .inv .0) (turn .loop-test .taken))
@@ -62,7 +62,7 @@ add-used : tie.Need-add-used Inv-loop μ-loop
 add-used c =
     let at-cut = c .before .before .before .before .before in
     let turn = at-cut .before .before .before .before .before in
-    omega (arith, lent-room (turn .before .loop .inv .0) (turn .loop-test .taken) (at-cut .icfl .ensures) (c .entries-used .ensures) (at-cut .icfl .kept .1 .1 .0))
+    omega (arith, lent-room (turn .before .loop .inv .0) (at-cut .icfl .ensures) (c .entries-used .ensures) (at-cut .icfl .kept .1 .1 .0))
 
 mul-places : tie.Need-mul-places Inv-loop μ-loop
 mul-places c = search needs

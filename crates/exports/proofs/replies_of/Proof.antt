@@ -2,6 +2,7 @@
 use borrow.Author.Needs.{needs}
 use mathlib.Core.Path.{refl}
 use Prim.Native.Nat.{_-_}
+use native.Mathlib.Omega.{arith}
 use Rattle.exports.proofs.ReplyLaws.{Replied, replied-starts, replied-on, replied-all}
 use Rattle.exports.proofs.replies_of.Statement.{statement}
 use Rattle.exports.proofs.replies_of.Tie as tie
@@ -37,7 +38,7 @@ loop-less : tie.Need-loop-less Inv-loop μ-loop
 loop-less c = search needs
 
 loop-again : tie.Need-loop-again Inv-loop μ-loop
-loop-again c = let turn = c .before .before in replied-on _ (turn .before .loop .inv) (turn .loop-test .taken) (c .numbers-of .ensures)
+loop-again c = let turn = c .before .before in replied-on _ (turn .before .loop .inv) (omega (arith, turn .loop-test .taken)) (c .numbers-of .ensures)
 
 returns : tie.Need-returns Inv-loop μ-loop
 returns c = replied-all (c .before .loop .inv) (c .loop-test .left)

@@ -1,0 +1,68 @@
+-- THEOREMS about calls that are careless of cards (request 105): the demand that shuts each of them out. Each is the library but for the card.
+use mathlib.Core.Path.{_≡_, refl, ap, sym, _∙_}
+use mathlib.Core.List.{List, [], _∷_}
+use Prim.Native.Nat.{ℕ}
+use native.Mathlib.Omega.{arith}
+use lib.ListN.{getD, replicate}
+use Rattle.words.specs.Examples.{a}
+use Rattle.words.specs.Separated.{separatedIcflEnds}
+use Rattle.checks.specs.Lines.{tried, lastOf, falls, faultyRecordEnds}
+use Rattle.checks.specs.declared.Checked.the-variants.{Refused}
+use Rattle.checks.specs.declared.Counted.{Counted}
+use Rattle.checks.proofs.LineLaws.{not-both}
+use Rattle.batch.specs.declared.Batch.{Batch}
+use Rattle.batch.specs.declared.Place.{Place}
+use Rattle.batch.specs.Batch.{entriesUsed, recordsFrom, cutRecord, cutRecords, batchOf, placesOf}
+use Rattle.demands.specs.Demands.{Calls, library, Demand1, Singly, none, next, Demands}
+
+abbrev Card : Type 1
+Card = (bytes es work ends : List ℕ) (r : Batch) (work′ ends′ : List ℕ) → Type 0
+
+-- the library with another call for cards
+abbrev cards : Card → Calls
+cards card = record {
+  Test = library .Test;
+  PieceCut = library .PieceCut;
+  ReasonedCut = library .ReasonedCut;
+  CardCut = card;
+  StrictCut = library .StrictCut;
+  StartTable = library .StartTable;
+  Comparing = library .Comparing;
+  Reading = library .Reading;
+  Summing = library .Summing;
+}
+
+-- right buffers, and f of the right answers, whatever the list of record ends is
+abbrev Answering : (List Counted → List Counted) → Card
+Answering f bytes es work ends r work′ ends′ =
+    (r ≡ record { refusal = 0; places = placesOf (f (batchOf bytes es work ends .answers)) })
+    × (work′ ≡ batchOf bytes es work ends .work) × (ends′ ≡ batchOf bytes es work ends .ends)
+
+-- one that refuses no list: an empty one is cut as a card without records
+pub refuses-none : ¬ Demand1 (cards (Answering (λ answers. answers)))
+unfolding tried faultyRecordEnds recordsFrom cutRecords
+refuses-none d = not-both refl (sym (d .card [] [] [] [] _ _ _ (refl, refl, refl) .0 .first))
+
+-- one that stops at the first refusal
+unfoldable pub untilRefused : List Counted → List Counted
+untilRefused [] = []
+untilRefused (Counted.Count n ∷ answers) = Counted.Count n ∷ untilRefused answers
+untilRefused (Counted.Refused number ∷ answers) = Counted.Refused number ∷ []
+
+abbrev stopped : Calls
+stopped = cards (Answering untilRefused)
+
+-- the second record of two, an empty one and a, has one factor
+second : (answers : List Counted) (work′ ends′ : List ℕ) → Singly stopped ([] ∷ (a ∷ []) ∷ []) (replicate 3 0) (0 ∷ []) answers work′ ends′
+    → getD (placesOf answers) 1 (record { answer = Counted.Count 0 }) .answer ≡ Counted.Count 1
+unfolding tried separatedIcflEnds
+second answers work′ ends′ (next d (next e none)) =
+    e .filled .answer ∙ rw (d .worked, d .filled .result, d .filled .answer) refl
+
+pub stops-at-refusal : ¬ Demands stopped
+unfolding tried faultyRecordEnds falls lastOf recordsFrom cutRecord cutRecords separatedIcflEnds untilRefused
+stops-at-refusal d =
+    let h = d .card (a ∷ []) (0 ∷ 1 ∷ []) (replicate 3 0) (0 ∷ []) _ _ _ (refl, refl, refl) refl in
+    let place : List Place → Counted = λ places. getD places 1 (record { answer = Counted.Count 0 }) .answer in
+    let z : _≡_ {A = ℕ} 0 1 = ap entriesUsed (ap place (h .places) ∙ second (h .answers) _ _ (h .singly)) in
+    omega arith
