@@ -21,7 +21,7 @@ use Rattle.checks.specs.declared.Counted.{Counted}
 use Rattle.checks.proofs.LineLaws.{not-both, all-pass, first-alone, first-listed, unmet}
 use Rattle.checks.proofs.RecordEndsLaws.{Climbs, climbs-head, climbs-tail, climbs-most, listed}
 use Rattle.icfl.specs.Icfl.{icflAdmission, IcflDone}
-use Rattle.batch.specs.Batch.{icflAnswer, recordsFrom, Progress, cutRecord, cutRecords, uncut, batchOf, placesOf, batchLines, BatchDone}
+use Rattle.batch.specs.Batch.{icflAnswer, recordsFrom, Progress, cutRecord, cutRecords, uncut, batchOf, batchWith, batchLines, BatchDone}
 use Rattle.batch.specs.BatchStatements.{Left}
 use Rattle.batch.specs.declared.Batch.{Batch}
 use Rattle.batch.proofs.FoldLaws.{left, added, batch-answers, Every, folded-work, folded-ends, written-drop, Fits, linesOf, cutBy, fits-by}
@@ -108,10 +108,10 @@ module _ (w work ends : List ℕ) where
   one-cut = ap (cutRecord (uncut work ends)) (take-all (length w) w (omega arith))
 
   pub single-batch : {work′ ends′ : List ℕ} {r : Batch} → BatchDone w (length w ∷ []) work ends r work′ ends′
-      → (r ≡ record { refusal = 0; places = placesOf (icflAnswer w work ends ∷ []) }) × IcflDone w work ends (icflAnswer w work ends) work′ ends′
+      → (r ≡ batchWith 0 (icflAnswer w work ends ∷ [])) × IcflDone w work ends (icflAnswer w work ends) work′ ends′
   unfolding cutRecord
   single-batch d = (
-    (rw (one-passes w) at (d .answer)) ∙ ap (λ (p : Progress). record { refusal = 0; places = placesOf (p .answers) }) one-cut,
+    (rw (one-passes w) at (d .answer)) ∙ ap (λ (p : Progress). batchWith 0 (p .answers)) one-cut,
     record {
       filled = record { answer = refl; result = (rw (one-passes w) at (d .result)) ∙ ap (λ (p : Progress). p .ends) one-cut };
       worked = (rw (one-passes w) at (d .worked)) ∙ ap (λ (p : Progress). p .work) one-cut;
@@ -119,11 +119,11 @@ module _ (w work ends : List ℕ) where
   )
 
   pub batch-single : {a : Counted} {work′ ends′ : List ℕ} → IcflDone w work ends a work′ ends′
-      → BatchDone w (length w ∷ []) work ends (record { refusal = 0; places = placesOf (a ∷ []) }) work′ ends′
+      → BatchDone w (length w ∷ []) work ends (batchWith 0 (a ∷ [])) work′ ends′
   unfolding cutRecord
   batch-single {a} d = record {
-    answer = rw (one-passes w) (ap (λ (x : Counted). record { refusal = 0; places = placesOf (x ∷ []) }) (d .filled .answer)
-        ∙ ap (λ (p : Progress). record { refusal = 0; places = placesOf (p .answers) }) (sym one-cut));
+    answer = rw (one-passes w) (ap (λ (x : Counted). batchWith 0 (x ∷ [])) (d .filled .answer)
+        ∙ ap (λ (p : Progress). batchWith 0 (p .answers)) (sym one-cut));
     result = rw (one-passes w) (d .filled .result ∙ ap (λ (p : Progress). p .ends) (sym one-cut));
     worked = rw (one-passes w) (d .worked ∙ ap (λ (p : Progress). p .work) (sym one-cut));
   }

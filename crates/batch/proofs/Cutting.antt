@@ -1,6 +1,6 @@
--- The turns of the loop that cuts the records (Cutting): what is still to be cut, from what has come of those before, leads to the whole batch.
+-- The call's promise where its list is refused (batch-refused), and the turns of the loop that cuts the records (Cutting): what is still to be cut, from what has come
+-- of those before, leads to the whole batch.
 use mathlib.Core.Path.{_≡_, refl, ap, sym, _∙_}
-use mathlib.Core.Bool.{false}
 use mathlib.Core.List.{List, [], _∷_, _++_, map, map-append, append-assoc}
 use Prim.Native.Nat.{ℕ, suc, _+_, _-_, _≤_, _<_}
 use native.Mathlib.Numerals.{add-one}
@@ -8,13 +8,28 @@ use native.Mathlib.Omega.{arith}
 use lib.ListN.{length, take, drop, getD, set, replicate, length-map, length-append, length-drop, drop-of-length-le}
 use lib.Seq.{slice, drop-cons, set-at, length-take-le}
 use Rattle.buffers.proofs.PartLaws.{part, part-is, rest, rest-is, rest-back}
-use Rattle.checks.specs.Lines.{mostRecords, faultyRecordEnds}
+use Rattle.checks.specs.Lines.{tried, mostRecords}
+use Rattle.checks.specs.Answers.{numberOf}
+use Rattle.checks.specs.declared.Checked.{Checked}
+use Rattle.checks.specs.declared.Checked.the-variants.{Passed}
 use Rattle.checks.specs.declared.Counted.{Counted}
-use Rattle.checks.proofs.LineLaws.{filled-front}
+use Rattle.checks.proofs.LineLaws.{IsRefused, refused, unmet, filled-front}
 use Rattle.checks.proofs.RecordEndsLaws.{Climbs, climbs-head, climbs-tail, climbs-most, listed}
 use Rattle.icfl.specs.Icfl.{IcflDone}
-use Rattle.batch.specs.Batch.{recordsFrom, Progress, entriesUsed, cutRecord, cutRecords, batchOf, placesOf, EachCut}
+use Rattle.batch.specs.Batch.{recordsFrom, Progress, entriesUsed, cutRecord, cutRecords, batchOf, placesOf, batchWith, batchLines, BatchDone}
 use Rattle.batch.specs.declared.Place.{Place}
+
+pub batch-refused : (bytes es work ends : List ℕ) {k : Checked} {m : ℕ} → k ≡ tried (batchLines es (length bytes)) → IsRefused k → m ≡ numberOf k
+    → BatchDone bytes es work ends (batchWith m []) work ends
+batch-refused bytes es work ends e h z =
+    let lines = batchLines es (length bytes) in
+    record {
+      answer = refused lines _ (λ (i : ℕ). batchWith i []) e h z;
+      result = refused lines _ (λ (i : ℕ). ends) e h z;
+      worked = refused lines _ (λ (i : ℕ). work) e h z;
+    }
+
+-- ---- the loop
 
 abbrev pub place : Counted → Place
 place answer = record { answer = answer }
@@ -46,22 +61,21 @@ pub record Cutting (bytes es work₀ ends₀ work ends : List ℕ) (places : Lis
   pub inside : i ≤ length es
   pub room : used ≤ length ends
 
-pub cutting-starts : (bytes es work ends : List ℕ) {places : List Place} → faultyRecordEnds es (length bytes) ≡ false → places ≡ placesOf []
-    → Cutting bytes es work ends work ends places 0 0 0
-cutting-starts bytes es work ends f z =
-    let l = listed es (length bytes) f in
-    record { answers = []; count = refl; placed = z; on = refl; climbs = l .climbs; few = l .few; inside = omega arith; room = omega arith }
+pub cutting-starts : (bytes es work ends : List ℕ) → tried (batchLines es (length bytes)) ≡ Passed → Cutting bytes es work ends work ends (placesOf []) 0 0 0
+cutting-starts bytes es work ends p =
+    let l = listed es (length bytes) (unmet (batchLines es (length bytes)) p .0) in
+    record { answers = []; count = refl; placed = refl; on = refl; climbs = l .climbs; few = l .few; inside = omega arith; room = omega arith }
 
 module _ {bytes es work₀ ends₀ work ends : List ℕ} {places : List Place} {from used i : ℕ} (g : Cutting bytes es work₀ ends₀ work ends places from used i) where
-  pub cutting-ends : length es ≤ i → EachCut bytes es work₀ ends₀ places work ends
+  pub cutting-ends : tried (batchLines es (length bytes)) ≡ Passed → length es ≤ i → BatchDone bytes es work₀ ends₀ (record { refusal = 0; places = places }) work ends
   unfolding recordsFrom cutRecords
-  cutting-ends l =
+  cutting-ends p l =
       let none : drop i es ≡ [] = drop-of-length-le es {i = i} l in
       let whole = ap (λ (t : List ℕ). cutRecords (record { answers = g .answers; work = work; ends = ends; used = used }) (recordsFrom from t bytes)) (sym none) ∙ g .on in
       record {
-        placed = g .placed ∙ ap (λ (p : Progress). placesOf (p .answers)) whole;
-        result = ap (λ (p : Progress). p .ends) whole;
-        worked = ap (λ (p : Progress). p .work) whole;
+        answer = rw p (ap (λ (t : List Place). record { refusal = 0; places = t }) (g .placed) ∙ ap (λ (q : Progress). batchWith 0 (q .answers)) whole);
+        result = rw p (ap (λ (q : Progress). q .ends) whole);
+        worked = rw p (ap (λ (q : Progress). q .work) whole);
       }
 
   -- the entries that the next answer uses are among those left

@@ -40,10 +40,20 @@ answers-split p (w ∷ ws) = answers-split (cutRecord p w) ws ∙ append-assoc (
 pub batch-answers : (bytes es work ends : List ℕ) → batchOf bytes es work ends .answers ≡ added (uncut work ends) (recordsFrom 0 es bytes)
 batch-answers bytes es work ends = answers-split (uncut work ends) (recordsFrom 0 es bytes)
 
-pub added-length : (p : Progress) (ws : List (List ℕ)) → length (added p ws) ≡ length ws
+added-length : (p : Progress) (ws : List (List ℕ)) → length (added p ws) ≡ length ws
 unfolding added
 added-length p [] = refl
 added-length p (w ∷ ws) = ap suc (added-length (cutRecord p w) ws)
+
+records-count : (a : ℕ) (es bytes : List ℕ) → length (recordsFrom a es bytes) ≡ length es
+unfolding recordsFrom
+records-count a [] bytes = refl
+records-count a (e ∷ es) bytes = ap suc (records-count e es bytes)
+
+-- one answer for each record end
+pub batch-count : (bytes es work ends : List ℕ) → length (batchOf bytes es work ends .answers) ≡ length es
+batch-count bytes es work ends =
+    ap length (batch-answers bytes es work ends) ∙ added-length (uncut work ends) (recordsFrom 0 es bytes) ∙ records-count 0 es bytes
 
 -- P holds of each answer
 abbrev pub Every : (Counted → Type 0) → List Counted → Type 0

@@ -1,4 +1,3 @@
 pub mod Cutting
-pub mod BatchCases
 pub mod FoldLaws
 pub mod BatchLaws

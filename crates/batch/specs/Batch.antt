@@ -72,21 +72,15 @@ batchOf bytes es work ends = cutRecords (uncut work ends) (recordsFrom 0 es byte
 abbrev pub placesOf : List Counted → List Place
 placesOf answers = map (λ answer. record { answer = answer }) answers ++ replicate (mostRecords - length answers) (record { answer = Counted.Count 0 })
 
+abbrev pub batchWith : ℕ → List Counted → Batch
+batchWith number answers = record { refusal = number; places = placesOf answers }
+
 -- 10, "checked before any record"
 abbrev pub batchLines : List ℕ → ℕ → List Line
 batchLines es n = recordEndsLine es n ∷ []
 
 -- the call's promise: its answer, 0 or 10 with all places (with 10 all hold "a result of 0"), and both buffers whole
 pub record BatchDone (bytes es work ends : List ℕ) (r : Batch) (work′ ends′ : List ℕ) : Type 0 where
-  pub answer : r ≡ record { refusal = 0; places = placesOf (batchOf bytes es work ends .answers) }
-      unless batchLines es (length bytes) then (λ number. record { refusal = number; places = placesOf [] })
+  pub answer : r ≡ batchWith 0 (batchOf bytes es work ends .answers) unless batchLines es (length bytes) then (λ number. batchWith number [])
   pub result : ends′ ≡ batchOf bytes es work ends .ends unless batchLines es (length bytes) then (λ number. ends)
   pub worked : work′ ≡ batchOf bytes es work ends .work unless batchLines es (length bytes) then (λ number. work)
-
--- ---- inside
-
--- what cutting the records comes to, once their list has passed
-pub record EachCut (bytes es work ends : List ℕ) (places : List Place) (work′ ends′ : List ℕ) : Type 0 where
-  pub placed : places ≡ placesOf (batchOf bytes es work ends .answers)
-  pub result : ends′ ≡ batchOf bytes es work ends .ends
-  pub worked : work′ ≡ batchOf bytes es work ends .work

@@ -3,11 +3,7 @@ use checks::Checked;
 use checks::Counted;
 pub use checks::MOST_RECORDS;
 ghost use mathlib.Core.Path.{_≡_};
-ghost use mathlib.Core.Bool.{false};
-ghost use mathlib.Core.List.{[]};
-ghost use lib.ListN.{length};
-ghost use Rattle.checks.specs.Lines.{faultyRecordEnds};
-ghost use Rattle.batch.specs.Batch.{entriesUsed, placesOf, EachCut, BatchDone};
+ghost use Rattle.batch.specs.Batch.{entriesUsed, BatchDone};
 
 /// What the piece cut answers for one record.
 pub struct Place {
@@ -20,15 +16,6 @@ pub struct Batch {
     pub places: [Place; MOST_RECORDS],
 }
 
-// All places with a result of 0.
-fn no_answers() -> [Place; MOST_RECORDS]
-    ensures { λ r. ⌜ r ≡ placesOf [] ⌝ }
-{
-    [Place {
-        answer: Counted::Count(0),
-    }; MOST_RECORDS]
-}
-
 // The entries of the result buffer that an answer uses.
 fn entries_used(answer: Counted) -> usize
     ensures { λ r. ⌜ r ≡ entriesUsed answer ⌝ }
@@ -39,17 +26,23 @@ fn entries_used(answer: Counted) -> usize
     }
 }
 
-// Cuts the records one after another, each with what is left of the result buffer.
-fn cut_each(
-    bytes: &[u8],
-    record_ends: &[u32],
-    work: &mut [u16],
-    ends: &mut [u16],
-) -> [Place; MOST_RECORDS]
-    requires { ⌜ faultyRecordEnds (now «record_ends») (length (now bytes)) ≡ false ⌝ }
-    ensures { λ r. ⌜ EachCut (now (bytes .entry)) (now («record_ends» .entry)) (now (work .entry)) (now (ends .entry)) r (now (work .exit)) (now (ends .exit)) ⌝ }
+/// Cuts up to 64 records that stand one after another in `bytes`, each up to its entry of `record_ends`. Each answer is the piece cut's with what is left of `ends`:
+/// a refused record uses no entry, and the next one is still tried. Ends count from their own record's start, and those of all records stand from entry 0 on
+/// without gaps. Refusal 10, before any record, where the list is empty, has more than 64 ends, falls somewhere, or does not end with the bytes lent; both buffers
+/// then stay as they were. Otherwise the first entries of `work`, three for each letter of the longest record that was cut or refused by 4, are zero.
+pub fn icfl_batch(bytes: &[u8], record_ends: &[u32], work: &mut [u16], ends: &mut [u16]) -> Batch
+    ensures { λ r. ⌜ BatchDone (now (bytes .entry)) (now («record_ends» .entry)) (now (work .entry)) (now (ends .entry)) r (now (work .exit)) (now (ends .exit)) ⌝ }
 {
-    let mut places = no_answers();
+    let mut places = [Place {
+        answer: Counted::Count(0),
+    }; MOST_RECORDS];
+    let listed = checks::check_record_ends(record_ends, bytes.len());
+    let Checked::Passed = listed else {
+        return Batch {
+            refusal: listed.number(),
+            places,
+        };
+    };
     let mut from: usize = 0;
     let mut used: usize = 0;
     let mut i: usize = 0;
@@ -61,23 +54,5 @@ fn cut_each(
         from = end;
         i += 1;
     }
-    places
-}
-
-/// Cuts up to 64 records that stand one after another in `bytes`, each up to its entry of `record_ends`. Each answer is the piece cut's with what is left of `ends`:
-/// a refused record uses no entry, and the next one is still tried. Ends count from their own record's start, and those of all records stand from entry 0 on
-/// without gaps. Refusal 10, before any record, where the list is empty, has more than 64 ends, falls somewhere, or does not end with the bytes lent; both buffers
-/// then stay as they were. Otherwise the first entries of `work`, three for each letter of the longest record that was cut or refused by 4, are zero.
-pub fn icfl_batch(bytes: &[u8], record_ends: &[u32], work: &mut [u16], ends: &mut [u16]) -> Batch
-    ensures { λ r. ⌜ BatchDone (now (bytes .entry)) (now («record_ends» .entry)) (now (work .entry)) (now (ends .entry)) r (now (work .exit)) (now (ends .exit)) ⌝ }
-{
-    let listed = checks::check_record_ends(record_ends, bytes.len());
-    let Checked::Passed = listed else {
-        return Batch {
-            refusal: listed.number(),
-            places: no_answers(),
-        };
-    };
-    let places = cut_each(bytes, record_ends, work, ends);
     Batch { refusal: 0, places }
 }

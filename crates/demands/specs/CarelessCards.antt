@@ -12,7 +12,7 @@ use Rattle.checks.specs.declared.Counted.{Counted}
 use Rattle.checks.proofs.LineLaws.{not-both}
 use Rattle.batch.specs.declared.Batch.{Batch}
 use Rattle.batch.specs.declared.Place.{Place}
-use Rattle.batch.specs.Batch.{entriesUsed, recordsFrom, cutRecord, cutRecords, batchOf, placesOf}
+use Rattle.batch.specs.Batch.{entriesUsed, recordsFrom, cutRecord, cutRecords, batchOf, placesOf, batchWith}
 use Rattle.demands.specs.Demands.{Calls, library, Demand1, Singly, none, next, Demands}
 
 abbrev Card : Type 1
@@ -35,7 +35,7 @@ cards card = record {
 -- right buffers, and f of the right answers, whatever the list of record ends is
 abbrev Answering : (List Counted → List Counted) → Card
 Answering f bytes es work ends r work′ ends′ =
-    (r ≡ record { refusal = 0; places = placesOf (f (batchOf bytes es work ends .answers)) })
+    (r ≡ batchWith 0 (f (batchOf bytes es work ends .answers)))
     × (work′ ≡ batchOf bytes es work ends .work) × (ends′ ≡ batchOf bytes es work ends .ends)
 
 -- one that refuses no list: an empty one is cut as a card without records

@@ -44,7 +44,7 @@ use Rattle.icfl.specs.declared.with_breaks.CountedBreaks.{CountedBreaks}
 use Rattle.icfl.specs.Icfl.{workAfter}
 use Rattle.icfl.specs.IcflBreaks.{breaksLines, breaksChecked, BreaksDone}
 use Rattle.batch.specs.declared.Batch.{Batch}
-use Rattle.batch.specs.Batch.{batchOf, placesOf, batchLines, BatchDone}
+use Rattle.batch.specs.Batch.{batchOf, batchWith, batchLines, BatchDone}
 use Rattle.compare.specs.declared.suffixes.Comparison.{Comparison}
 use Rattle.compare.specs.Compare.{comparisonChecked, compareLines, orderOf}
 use Rattle.summary.specs.Summary.{summaryLines, summaryOf, emptySummary}
@@ -90,9 +90,8 @@ breaks-say {w} {work} {ends} {breaks} f =
 card-number : {bytes es work ends work′ ends′ : List ℕ} {r : Batch} → BatchDone bytes es work ends r work′ ends′
     → r .refusal ≡ numberOf (tried (batchLines es (length bytes)))
 card-number {bytes} {es} {work} {ends} f =
-    let done : Batch = record { refusal = 0; places = placesOf (batchOf bytes es work ends .answers) } in
     ap (λ (b : Batch). b .refusal) (f .answer)
-    ∙ reading (λ (b : Batch). b .refusal) done (λ number. record { refusal = number; places = placesOf [] }) (tried (batchLines es (length bytes)))
+    ∙ reading (λ (b : Batch). b .refusal) (batchWith 0 (batchOf bytes es work ends .answers)) (λ number. batchWith number []) (tried (batchLines es (length bytes)))
 
 card-says : {bytes es work ends work′ ends′ : List ℕ} {r : Batch} → BatchDone bytes es work ends r work′ ends′
     → numbered (r .refusal) ≡ tried (batchLines es (length bytes))

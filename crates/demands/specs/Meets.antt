@@ -30,7 +30,7 @@ use Rattle.icfl.specs.Icfl.{icflLines, IcflDone}
 use Rattle.icfl.specs.IcflBreaks.{breaksLines, BreaksDone}
 use Rattle.batch.specs.declared.Batch.{Batch}
 use Rattle.batch.specs.declared.Place.{Place}
-use Rattle.batch.specs.Batch.{icflAnswer, recordsFrom, uncut, batchOf, placesOf, batchLines, BatchDone}
+use Rattle.batch.specs.Batch.{icflAnswer, recordsFrom, uncut, batchOf, batchWith, batchLines, BatchDone}
 use Rattle.batch.proofs.FoldLaws.{batch-answers, Every, every-added}
 use Rattle.cfl.specs.CflIn.{CflInDone}
 use Rattle.table.specs.Table.{Tabled}
@@ -41,7 +41,7 @@ use Rattle.summary.specs.declared.Summary.{Summary}
 use Rattle.summary.specs.Summary.{Summarized}
 use Rattle.exports.specs.declared.Reply.{Reply}
 use Rattle.exports.specs.declared.Replies.{Replies}
-use Rattle.exports.specs.Exports.{ifFailing, TestNumbers, FilledNumbers, BreaksNumbers, replyOf, repliesOf, BatchNumbers, ComparisonNumbers, FactorNumbers}
+use Rattle.exports.specs.Exports.{ifFailing, TestNumbers, FilledNumbers, BreaksNumbers, replyOf, repliesOf, repliesWith, BatchNumbers, ComparisonNumbers, FactorNumbers}
 use Rattle.demands.specs.Demands.{Calls, library, exported, verdictBy, countBy, countsBy, batchBy, comparisonBy}
 
 pub record Meets (c : Calls) : Type 0 where
@@ -153,9 +153,8 @@ batch-by bytes es work ends f z = record {
     readable : Every Readable (batchOf bytes es work ends .answers)
     readable = rw (batch-answers bytes es work ends) (every-added Readable single-readable (uncut work ends) (recordsFrom 0 es bytes))
 
-    go : (k : Checked) → batchBy (decided k (record { refusal = 0; replies = repliesOf (placesOf (batchOf bytes es work ends .answers)) })
-        (λ number. record { refusal = number; replies = repliesOf (placesOf []) }))
-        ≡ decided k (record { refusal = 0; places = placesOf (batchOf bytes es work ends .answers) }) (λ number. record { refusal = number; places = placesOf [] })
+    go : (k : Checked) → batchBy (decided k (repliesWith 0 (batchOf bytes es work ends .answers)) (λ number. repliesWith number []))
+        ≡ decided k (batchWith 0 (batchOf bytes es work ends .answers)) (λ number. batchWith number [])
     go Passed = ap (λ (t : List Place). record { refusal = 0; places = t }) (places-back (batchOf bytes es work ends .answers) readable (mostRecords - length (batchOf bytes es work ends .answers)))
     go (Refused number) = ap (λ (t : List Place). record { refusal = number; places = t }) (places-back [] tt mostRecords)
 

@@ -14,7 +14,7 @@ use Rattle.checks.specs.declared.Counted.{Counted}
 use Rattle.checks.proofs.LineLaws.{reading}
 use Rattle.batch.specs.declared.Batch.{Batch}
 use Rattle.batch.specs.declared.Place.{Place}
-use Rattle.batch.specs.Batch.{icflAnswer, recordsFrom, uncut, batchOf, placesOf, batchLines, BatchDone}
+use Rattle.batch.specs.Batch.{icflAnswer, recordsFrom, uncut, batchOf, placesOf, batchWith, batchLines, BatchDone}
 use Rattle.batch.proofs.FoldLaws.{batch-answers, Every, every-added}
 use Rattle.exports.specs.declared.Reply.{Reply}
 use Rattle.exports.specs.declared.Replies.{Replies}
@@ -77,7 +77,7 @@ module _ (bytes es work ends work′ ends′ : List ℕ) (r : Batch) (f : BatchD
   lines = batchLines es (length bytes)
 
   abbrev done : Batch
-  done = record { refusal = 0; places = placesOf (batchOf bytes es work ends .answers) }
+  done = batchWith 0 (batchOf bytes es work ends .answers)
 
   answers-small : Every Small (batchOf bytes es work ends .answers)
   answers-small = rw (batch-answers bytes es work ends) (every-added Small single-small (uncut work ends) (recordsFrom 0 es bytes))
@@ -85,7 +85,7 @@ module _ (bytes es work ends work′ ends′ : List ℕ) (r : Batch) (f : BatchD
   pub batch-small : EachSmall (r .places)
   batch-small = rw (f .answer) (go (tried lines))
     where
-      go : (k : Checked) → EachSmall (decided k done (λ number. record { refusal = number; places = placesOf [] }) .places)
+      go : (k : Checked) → EachSmall (decided k done (λ number. batchWith number []) .places)
       go Passed = placed-small (batchOf bytes es work ends .answers) answers-small
       go (Refused number) = placed-small [] tt
 
@@ -94,7 +94,7 @@ module _ (bytes es work ends work′ ends′ : List ℕ) (r : Batch) (f : BatchD
   batch-numbers replies e = record {
     answer = ap (λ (t : List Reply). record { refusal = r .refusal; replies = t }) e
         ∙ ap numbers (f .answer)
-        ∙ reading numbers done (λ number. record { refusal = number; places = placesOf [] }) (tried lines);
+        ∙ reading numbers done (λ number. batchWith number []) (tried lines);
     result = f .result;
     worked = f .worked;
   }

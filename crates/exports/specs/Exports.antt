@@ -64,9 +64,11 @@ replyOf (Counted.Refused e) = record { refusal = e; count = 0 }
 abbrev pub repliesOf : List Place → List Reply
 repliesOf places = map (λ place. replyOf (place .answer)) places
 
+abbrev pub repliesWith : ℕ → List Counted → Replies
+repliesWith number answers = record { refusal = number; replies = repliesOf (placesOf answers) }
+
 pub record BatchNumbers (bytes es work ends : List ℕ) (r : Replies) (work′ ends′ : List ℕ) : Type 0 where
-  pub answer : r ≡ record { refusal = 0; replies = repliesOf (placesOf (batchOf bytes es work ends .answers)) }
-      unless batchLines es (length bytes) then (λ number. record { refusal = number; replies = repliesOf (placesOf []) })
+  pub answer : r ≡ repliesWith 0 (batchOf bytes es work ends .answers) unless batchLines es (length bytes) then (λ number. repliesWith number [])
   pub result : ends′ ≡ batchOf bytes es work ends .ends unless batchLines es (length bytes) then (λ number. ends)
   pub worked : work′ ≡ batchOf bytes es work ends .work unless batchLines es (length bytes) then (λ number. work)
 
