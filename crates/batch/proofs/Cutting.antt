@@ -16,7 +16,7 @@ use Rattle.checks.specs.declared.Counted.{Counted}
 use Rattle.checks.proofs.LineLaws.{IsRefused, refused, unmet, filled-front}
 use Rattle.checks.proofs.RecordEndsLaws.{Climbs, climbs-head, climbs-tail, climbs-most, listed}
 use Rattle.icfl.specs.Icfl.{IcflDone}
-use Rattle.batch.specs.Batch.{recordsFrom, Progress, entriesUsed, cutRecord, cutRecords, batchOf, placesOf, batchWith, batchLines, BatchDone}
+use Rattle.batch.specs.Batch.{recordsFrom, Progress, entriesUsed, cutRecord, cutRecords, batchOf, place, placesOf, batchWith, batchLines, BatchDone}
 use Rattle.batch.specs.declared.Place.{Place}
 
 pub batch-refused : (bytes es work ends : List ℕ) {k : Checked} {m : ℕ} → k ≡ tried (batchLines es (length bytes)) → IsRefused k → m ≡ numberOf k
@@ -30,9 +30,6 @@ batch-refused bytes es work ends e h z =
     }
 
 -- ---- the loop
-
-abbrev pub place : Counted → Place
-place answer = record { answer = answer }
 
 -- one more answer takes the first place past the others
 pub placed-next : (answers : List Counted) (a : Counted) {i : ℕ} → length answers ≡ i → i < mostRecords

@@ -68,9 +68,12 @@ batchOf bytes es work ends = cutRecords (uncut work ends) (recordsFrom 0 es byte
 
 -- ---- the call
 
+abbrev pub place : Counted → Place
+place answer = record { answer = answer }
+
 -- "The answers come in the card's order, in 64 places; those past the last record hold a result of 0."
 abbrev pub placesOf : List Counted → List Place
-placesOf answers = map (λ answer. record { answer = answer }) answers ++ replicate (mostRecords - length answers) (record { answer = Counted.Count 0 })
+placesOf answers = map place answers ++ replicate (mostRecords - length answers) (place (Counted.Count 0))
 
 abbrev pub batchWith : ℕ → List Counted → Batch
 batchWith number answers = record { refusal = number; places = placesOf answers }

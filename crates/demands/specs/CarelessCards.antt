@@ -12,7 +12,7 @@ use Rattle.checks.specs.declared.Counted.{Counted}
 use Rattle.checks.proofs.LineLaws.{not-both}
 use Rattle.batch.specs.declared.Batch.{Batch}
 use Rattle.batch.specs.declared.Place.{Place}
-use Rattle.batch.specs.Batch.{entriesUsed, recordsFrom, cutRecord, cutRecords, batchOf, placesOf, batchWith}
+use Rattle.batch.specs.Batch.{entriesUsed, recordsFrom, cutRecord, cutRecords, batchOf, place, placesOf, batchWith}
 use Rattle.demands.specs.Demands.{Calls, library, Demand1, Singly, none, next, Demands}
 
 abbrev Card : Type 1
@@ -54,7 +54,7 @@ stopped = cards (Answering untilRefused)
 
 -- the second record of two, an empty one and a, has one factor
 second : (answers : List Counted) (work′ ends′ : List ℕ) → Singly stopped ([] ∷ (a ∷ []) ∷ []) (replicate 3 0) (0 ∷ []) answers work′ ends′
-    → getD (placesOf answers) 1 (record { answer = Counted.Count 0 }) .answer ≡ Counted.Count 1
+    → getD (placesOf answers) 1 (place (Counted.Count 0)) .answer ≡ Counted.Count 1
 unfolding tried separatedIcflEnds
 second answers work′ ends′ (next d (next e none)) =
     e .filled .answer ∙ rw (d .worked, d .filled .result, d .filled .answer) refl
@@ -63,6 +63,6 @@ pub stops-at-refusal : ¬ Demands stopped
 unfolding tried faultyRecordEnds falls lastOf recordsFrom cutRecord cutRecords separatedIcflEnds untilRefused
 stops-at-refusal d =
     let h = d .card (a ∷ []) (0 ∷ 1 ∷ []) (replicate 3 0) (0 ∷ []) _ _ _ (refl, refl, refl) refl in
-    let place : List Place → Counted = λ places. getD places 1 (record { answer = Counted.Count 0 }) .answer in
-    let z : _≡_ {A = ℕ} 0 1 = ap entriesUsed (ap place (h .places) ∙ second (h .answers) _ _ (h .singly)) in
+    let at-1 : List Place → Counted = λ places. getD places 1 (place (Counted.Count 0)) .answer in
+    let z : _≡_ {A = ℕ} 0 1 = ap entriesUsed (ap at-1 (h .places) ∙ second (h .answers) _ _ (h .singly)) in
     omega arith

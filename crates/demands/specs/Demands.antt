@@ -42,7 +42,7 @@ use Rattle.icfl.specs.declared.with_breaks.CountedBreaks.{CountedBreaks}
 use Rattle.icfl.specs.Icfl.{icflLines, IcflDone}
 use Rattle.icfl.specs.IcflBreaks.{breaksLines, breaksChecked, BreaksDone}
 use Rattle.batch.specs.declared.Batch.{Batch}
-use Rattle.batch.specs.Batch.{recordsFrom, entriesUsed, placesOf, batchLines, BatchDone}
+use Rattle.batch.specs.Batch.{recordsFrom, entriesUsed, place, placesOf, batchLines, BatchDone}
 use Rattle.batch.specs.BatchStatements.{Left}
 use Rattle.cfl.specs.CflIn.{cflInLines, CflInDone}
 use Rattle.table.specs.Table.{tableLines, Tabled}
@@ -93,7 +93,7 @@ abbrev pub countsBy : (number factors breaks : ℕ) → CountedBreaks
 countsBy number factors breaks = decided (numbered number) (CountedBreaks.Counts factors breaks) CountedBreaks.Refused
 
 abbrev pub batchBy : Replies → Batch
-batchBy x = record { refusal = x .refusal; places = map (λ y. record { answer = countBy (y .refusal) (y .count) }) (x .replies) }
+batchBy x = record { refusal = x .refusal; places = map (λ y. place (countBy (y .refusal) (y .count))) (x .replies) }
 
 abbrev pub comparisonBy : (number : ℕ) (sign : ℤ) (common : ℕ) → Comparison
 comparisonBy number sign common = decided (numbered number) (Comparison.Order sign common) Comparison.Refused

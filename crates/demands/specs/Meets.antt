@@ -30,7 +30,7 @@ use Rattle.icfl.specs.Icfl.{icflLines, IcflDone}
 use Rattle.icfl.specs.IcflBreaks.{breaksLines, BreaksDone}
 use Rattle.batch.specs.declared.Batch.{Batch}
 use Rattle.batch.specs.declared.Place.{Place}
-use Rattle.batch.specs.Batch.{icflAnswer, recordsFrom, uncut, batchOf, batchWith, batchLines, BatchDone}
+use Rattle.batch.specs.Batch.{icflAnswer, recordsFrom, uncut, batchOf, place, batchWith, batchLines, BatchDone}
 use Rattle.batch.proofs.FoldLaws.{batch-answers, Every, every-added}
 use Rattle.cfl.specs.CflIn.{CflInDone}
 use Rattle.table.specs.Table.{Tabled}
@@ -128,19 +128,16 @@ single-readable w work ends = go (tried (icflLines w (length work) (length ends)
     go Passed h = refl
     go (Refused number) h = rw h refl
 
-abbrev blank : Place
-blank = record { answer = Counted.Count 0 }
-
 abbrev readBack : List Reply → List Place
-readBack replies = map (λ y. record { answer = countBy (y .refusal) (y .count) }) replies
+readBack replies = map (λ y. place (countBy (y .refusal) (y .count))) replies
 
-places-back : (answers : List Counted) → Every Readable answers → (n : ℕ) → (let places = map (λ answer. record { answer = answer }) answers ++ replicate n blank in
+places-back : (answers : List Counted) → Every Readable answers → (n : ℕ) → (let places = map place answers ++ replicate n (place (Counted.Count 0)) in
     readBack (repliesOf places) ≡ places)
 places-back [] h zero = refl
-places-back [] h (suc n) = ap (λ (t : List Place). blank ∷ t) (places-back [] tt n)
+places-back [] h (suc n) = ap (λ (t : List Place). place (Counted.Count 0) ∷ t) (places-back [] tt n)
 places-back (a ∷ answers) h n =
-    ap (λ (x : Counted). record { answer = x } ∷ readBack (repliesOf (map (λ answer. record { answer = answer }) answers ++ replicate n blank))) (h .0)
-    ∙ ap (λ (t : List Place). record { answer = a } ∷ t) (places-back answers (h .1) n)
+    ap (λ (x : Counted). place x ∷ readBack (repliesOf (map place answers ++ replicate n (place (Counted.Count 0))))) (h .0)
+    ∙ ap (λ (t : List Place). place a ∷ t) (places-back answers (h .1) n)
 
 batch-by : (bytes es work ends : List ℕ) {x : Replies} {work′ ends′ : List ℕ} {r : Batch} → BatchNumbers bytes es work ends x work′ ends′ → r ≡ batchBy x
     → BatchDone bytes es work ends r work′ ends′

@@ -14,7 +14,7 @@ use Rattle.checks.specs.declared.Counted.{Counted}
 use Rattle.checks.proofs.LineLaws.{reading}
 use Rattle.batch.specs.declared.Batch.{Batch}
 use Rattle.batch.specs.declared.Place.{Place}
-use Rattle.batch.specs.Batch.{icflAnswer, recordsFrom, uncut, batchOf, placesOf, batchWith, batchLines, BatchDone}
+use Rattle.batch.specs.Batch.{icflAnswer, recordsFrom, uncut, batchOf, place, placesOf, batchWith, batchLines, BatchDone}
 use Rattle.batch.proofs.FoldLaws.{batch-answers, Every, every-added}
 use Rattle.exports.specs.declared.Reply.{Reply}
 use Rattle.exports.specs.declared.Replies.{Replies}
@@ -53,15 +53,12 @@ replied-all {places} {replies} {i} g l =
 
 -- ---- the batch
 
-abbrev blank : Place
-blank = record { answer = Counted.Count 0 }
-
-blanks-small : (n : ℕ) → EachSmall (replicate n blank)
+blanks-small : (n : ℕ) → EachSmall (replicate n (place (Counted.Count 0)))
 blanks-small zero i = omega arith
 blanks-small (suc n) zero = omega arith
 blanks-small (suc n) (suc i) = blanks-small n i
 
-places-small : (answers : List Counted) → Every Small answers → (n : ℕ) → EachSmall (map (λ answer. record { answer = answer }) answers ++ replicate n blank)
+places-small : (answers : List Counted) → Every Small answers → (n : ℕ) → EachSmall (map place answers ++ replicate n (place (Counted.Count 0)))
 places-small [] h n i = blanks-small n i
 places-small (a ∷ answers) h n zero = h .0
 places-small (a ∷ answers) h n (suc i) = places-small answers (h .1) n i

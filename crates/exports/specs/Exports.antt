@@ -17,7 +17,7 @@ use Rattle.extension.specs.Extension.{extensionLines}
 use Rattle.fates.specs.Entries.{entriesOf}
 use Rattle.icfl.specs.Icfl.{icflLines, workAfter}
 use Rattle.icfl.specs.IcflBreaks.{breaksLines}
-use Rattle.batch.specs.Batch.{placesOf, batchOf, batchLines}
+use Rattle.batch.specs.Batch.{place, placesOf, batchOf, batchLines}
 use Rattle.batch.specs.declared.Place.{Place}
 use Rattle.cfl.specs.CflIn.{cflInLines}
 use Rattle.table.specs.Table.{tableLines}
@@ -98,4 +98,4 @@ Small (Counted.Refused e) = Unit {0}
 
 -- of each place
 abbrev pub EachSmall : List Place → Type 0
-EachSmall places = (i : ℕ) → Small (getD places i (record { answer = Counted.Count 0 }) .answer)
+EachSmall places = (i : ℕ) → Small (getD places i (place (Counted.Count 0)) .answer)
