@@ -3,8 +3,8 @@
  * A record is a word of 1 to 4,096 bytes. Byte 255 is a mark, all other values are ordinary letters. Each mark is a
  * factor of both cuts by itself, with 1 in the start table; each nonempty stretch between neighbouring marks or the
  * record's edges is cut as a record by itself. The comparison takes 255 for the largest letter, the test refuses it.
- * Places count from 0; an end is the place just past the last byte. Every function returns (metsroeb_summarize: holds)
- * a refusal number, 0 for a result.
+ * Places count from 0; an end is the place just past the last byte. Every function returns a refusal number, 0 for a
+ * result, or a struct that holds it.
  *
  * The caller ensures, for every function:
  *   - every pointer is valid and not null, also where its length is 0, and aligned for its type;
@@ -26,10 +26,12 @@
  *   7  factor, summarize   ends is empty, begins with 0, does not rise strictly, or its last end is not record_len
  *   8  factor      number is not below ends_len
  *   9  test        the record holds a mark
+ *  10  icfl_batch  record_ends is empty, has more than 64 ends, falls somewhere, or its last end is not bytes_len;
+ *                  before lines 1 to 4, which each record of the batch meets or passes by itself
  *
- * Beside a refusal the numbers written through pointers are 0, and every buffer is as it was; only icfl and icfl_breaks
- * refused by 4 have cleared their work buffer as after a result. Entries past those that a function is said to write
- * stay as they were.
+ * Beside a refusal the numbers written through pointers are 0, and every buffer is as it was; only icfl (also for a
+ * record of a batch) and icfl_breaks have cleared their work buffer after 4 as after a result. Entries past those that a
+ * function is said to write stay as they were.
  */
 #ifndef METSROEB_H
 #define METSROEB_H
@@ -41,7 +43,8 @@
 extern "C" {
 #endif
 
-#define METSROEB_MOST 4096 /* the most bytes of a record */
+#define METSROEB_MOST 4096       /* the most bytes of a record */
+#define METSROEB_MOST_RECORDS 64 /* the most records of a batch */
 
 /* What the factors that a list of ends marks come to. Beside a refusal all else is 0. */
 typedef struct {
@@ -51,6 +54,19 @@ typedef struct {
     uint16_t from;      /* first place of the latest factor of that length */
     uint16_t bands[13]; /* bands[k]: number of factors whose length has k + 1 binary digits */
 } metsroeb_summary;
+
+/* What icfl answers for a record of a batch: a refusal, or how many ends it wrote. */
+typedef struct {
+    uint8_t refusal;
+    uint16_t count; /* 0 beside a refusal */
+} metsroeb_reply;
+
+/* What a batch comes to: a refusal of all of it, or a reply for each record, in their order. Places past the last
+ * record, and all of them beside a refusal, hold a result of 0. */
+typedef struct {
+    uint8_t refusal;
+    metsroeb_reply replies[METSROEB_MOST_RECORDS];
+} metsroeb_batch;
 
 /* The test. An inverse Lyndon record (nonempty, greater than each nonempty proper suffix): 0 in all three numbers.
  * Otherwise *failing is the length L of the shortest prefix that is not inverse Lyndon, *border the length of the
@@ -78,6 +94,18 @@ uint8_t metsroeb_icfl(const uint8_t *record, size_t record_len, uint16_t *work, 
 uint8_t metsroeb_icfl_breaks(const uint8_t *record, size_t record_len, uint16_t *work, size_t work_len,
                              uint16_t *ends, size_t ends_len, uint16_t *breaks, size_t breaks_len,
                              uint16_t *count, uint16_t *break_count);
+
+/* The piece cut of a batch of up to 64 records that stand in bytes one after another; record_ends has the end of each
+ * one there. Two equal neighbours, or a first end of 0, mean an empty record. Each record is cut as by icfl, with the
+ * whole of work and with what is left of ends; its reply is icfl's. The ends of accepted records follow one another from
+ * entry 0 without a gap, each counted from the first byte of its own record; a refused record uses no entry, and the
+ * next one is still tried. bytes_len entries of ends are always enough.
+ * work: three times the bytes of the longest record that is to be cut. Zero afterwards are 3 * the bytes of the longest
+ * record that was cut or refused by 4; other refusals change nothing in it.
+ * Refusal 10, before any record: every reply is 0 then, and both buffers are as they were. In the replies: 1, 2, 3, 4. */
+metsroeb_batch metsroeb_icfl_batch(const uint8_t *bytes, size_t bytes_len, const uint32_t *record_ends,
+                                   size_t record_ends_len, uint16_t *work, size_t work_len, uint16_t *ends,
+                                   size_t ends_len);
 
 /* The strict cut, the Lyndon factorization in the inverse order (its factors are anti-Lyndon words): writes the ends
  * of the factors to ends, from entry 0, and their number to *count. A mark is a factor; a stretch is cut by itself, its

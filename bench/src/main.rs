@@ -30,15 +30,36 @@ struct Case {
     strict_ends: Vec<u16>,
     /// The start whose suffix agrees longest with the record.
     start: usize,
+    /// As many bytes as the record has, in records of 64 and of 256 bytes, and in one.
+    batches: [Batch; 3],
+}
+
+/// Records one after another, and where each ends.
+struct Batch {
+    bytes: Vec<u8>,
+    record_ends: Vec<u32>,
+}
+
+impl Batch {
+    /// Records of the kind, `length` bytes each, all of them others where they are random.
+    fn new(make: fn(usize, usize) -> Vec<u8>, n: usize, number: usize, length: usize) -> Batch {
+        let bytes = (0..n / length).flat_map(|k| make(length, number + 64 * k)).collect();
+        Batch { bytes, record_ends: (1..=n / length).map(|k| (k * length) as u32).collect() }
+    }
+}
+
+/// Reads the answers of a batch: how many ends there are in all.
+fn count_ends<'a, E>(replies: impl Iterator<Item = Result<&'a [u16], E>>) -> usize {
+    replies.flatten().map(<[u16]>::len).sum()
 }
 
 impl Case {
-    fn new(record: Vec<u8>) -> Case {
-        let n = record.len();
+    fn new(make: fn(usize, usize) -> Vec<u8>, n: usize, number: usize) -> Case {
+        let record = make(n, number);
         let strict_ends = metsroeb::cfl_in(&record, &mut vec![0; n]).unwrap().to_vec();
         let agreement = |&start: &usize| metsroeb::compare_suffixes(&record, 0, n, 0, start).unwrap().common;
         let start = (1..n).rev().max_by_key(agreement).unwrap();
-        Case { strict_ends, start, record }
+        Case { batches: [64, 256, n].map(|length| Batch::new(make, n, number, length)), strict_ends, start, record }
     }
 }
 
@@ -54,6 +75,10 @@ type Call = fn(&Case, &mut Buffers);
 /// The timed calls of a module that has the crate's functions, by name. `numbers` reads a comparison; it widens the number, since the
 /// stack frame of a smaller answer ends with a load that waits for the stores of its parts: 3 nanoseconds, half of a short call.
 macro_rules! calls_of {
+    (batch $of:ident, $batch:expr, $lent:expr) => {{
+        let found = $of::icfl_batch(&$batch.bytes, &$batch.record_ends, &mut $lent.work, &mut $lent.result);
+        black_box(found.map(|batch| count_ends(batch.iter()))).ok();
+    }};
     ($of:ident) => {
         calls_of!($of, |found| (found.order, usize::from(found.common)))
     };
@@ -69,6 +94,12 @@ macro_rules! calls_of {
             ("`metsroeb_icfl_breaks`", |case, lent| {
                 black_box($of::icfl_with_breaks(&case.record, &mut lent.work, &mut lent.result, &mut lent.breaks)).ok();
             }),
+            #[cfg(has = "icfl_batch")]
+            ("`metsroeb_icfl_batch`, records of 64 bytes", |case, lent| calls_of!(batch $of, case.batches[0], lent)),
+            #[cfg(has = "icfl_batch")]
+            ("`metsroeb_icfl_batch`, records of 256 bytes", |case, lent| calls_of!(batch $of, case.batches[1], lent)),
+            #[cfg(has = "icfl_batch")]
+            ("`metsroeb_icfl_batch`, one record", |case, lent| calls_of!(batch $of, case.batches[2], lent)),
             ("`metsroeb_cfl_in`, n result entries: one pass", |case, lent| {
                 black_box($of::cfl_in(&case.record, &mut lent.result)).ok();
             }),
@@ -133,7 +164,7 @@ fn median(times: &mut [f64]) -> f64 {
 /// machine and the same caches.
 fn measure(sides: [Call; 2], (_, records, make): Input) -> [(f64, f64); 4] {
     let mut benches = LENGTHS.map(|n| {
-        let cases = (0..records).map(|k| Case::new(make(n, k))).collect::<Vec<_>>();
+        let cases = (0..records).map(|k| Case::new(make, n, k)).collect::<Vec<_>>();
         (cases, Buffers { work: vec![0; 3 * n], result: vec![0; n], breaks: vec![0; 5 * n] })
     });
     let repeats = benches.each_mut().map(|b| {

@@ -1,4 +1,5 @@
 //! Answers that are more than a number or a slice.
+use super::{raw, Refusal};
 use core::cmp::Ordering;
 use core::slice;
 
@@ -80,6 +81,48 @@ impl Iterator for Breaks<'_> {
 }
 
 impl ExactSizeIterator for Breaks<'_> {}
+
+/// What the piece cut answers for each record of a batch, in their order, as [`icfl_batch`](crate::icfl_batch) finds it.
+#[derive(Clone, Debug)]
+pub struct Batch<'a> {
+    answer: raw::Batch,
+    records: usize,
+    ends: &'a [u16],
+}
+
+impl<'a> Batch<'a> {
+    /// What [`metsroeb_icfl_batch`](crate::raw::metsroeb_icfl_batch) returned for so many records, with the result buffer that it
+    /// filled.
+    #[inline]
+    pub fn read(answer: raw::Batch, records: usize, ends: &'a [u16]) -> Result<Batch<'a>, Refusal> {
+        Refusal::check(answer.refusal)?;
+        Ok(Batch { answer, records, ends })
+    }
+
+    /// How many records the batch has.
+    #[inline]
+    #[allow(clippy::len_without_is_empty)] // it has at least one
+    pub fn len(&self) -> usize {
+        self.records
+    }
+
+    /// What was answered for record `number`, from 0; none where the batch has no such record.
+    #[inline]
+    pub fn get(&self, number: usize) -> Option<Result<&'a [u16], Refusal>> {
+        self.iter().nth(number)
+    }
+
+    /// For each record the ends of its factors, within the record, or its refusal.
+    #[inline]
+    pub fn iter(&self) -> impl ExactSizeIterator<Item = Result<&'a [u16], Refusal>> + '_ {
+        let mut left = self.ends;
+        self.answer.replies.iter().take(self.records).map(move |reply| {
+            let (ends, rest) = left.split_at(reply.count.into());
+            left = rest;
+            Refusal::check(reply.refusal).map(|()| ends)
+        })
+    }
+}
 
 /// How the words from two starts compare, as [`compare_suffixes`](crate::compare_suffixes) finds it.
 #[derive(Clone, Copy, Debug, PartialEq, Eq)]

@@ -3,7 +3,7 @@
 //! and what is lent to be written overlaps nothing else.
 //!
 //! The tests compile this file a second time over a `raw` of their own, so it takes its names from the module above it.
-use super::{raw, Breaks, Comparison, Extension, Refusal, Summary};
+use super::{raw, Batch, Breaks, Comparison, Extension, Refusal, Summary};
 
 /// The test: whether the record is inverse Lyndon, and if not, where and how it fails.
 ///
@@ -118,6 +118,51 @@ pub fn icfl_with_breaks<'a>(
         )
     })?;
     Ok((&ends[..usize::from(count)], Breaks::read(&breaks[..5 * usize::from(break_count)])))
+}
+
+/// The piece cut of a batch of up to [`MOST_RECORDS`](crate::MOST_RECORDS) records, which stand in `bytes` one after another;
+/// `record_ends` has the end of each one there. Two equal neighbours, or a first end of 0, mean an empty record.
+///
+/// Each record is cut as by [`icfl`], with all of `work` and with what is left of `ends`, and is answered as there; a refused
+/// record uses no entry of `ends`, and the next one is still tried. The ends of a record are counted from its own first byte. As
+/// many entries of `ends` as there are bytes are always enough. `work` needs three times the bytes of the longest record;
+/// afterwards its first entries are 0, three for each byte of the longest record that was cut or refused by
+/// [`SHORT_RESULT`](Refusal::SHORT_RESULT).
+///
+/// Refusals of the batch: [`BAD_RECORD_ENDS`](Refusal::BAD_RECORD_ENDS), before any record. Of a record in it:
+/// [`EMPTY_RECORD`](Refusal::EMPTY_RECORD), [`LONG_RECORD`](Refusal::LONG_RECORD), [`SHORT_WORK`](Refusal::SHORT_WORK),
+/// [`SHORT_RESULT`](Refusal::SHORT_RESULT).
+///
+/// ```
+/// use metsroeb::{icfl_batch, Refusal};
+///
+/// let (mut work, mut ends) = ([0; 27], [0; 3]);
+/// // cbabacbac, an empty record, abc, ba
+/// let batch = icfl_batch(b"cbabacbacabcba", &[9, 9, 12, 14], &mut work, &mut ends)?;
+/// assert_eq!(batch.len(), 4);
+/// assert_eq!(batch.get(0), Some(Ok(&[5, 9][..])));
+/// assert_eq!(batch.get(1), Some(Err(Refusal::EMPTY_RECORD)));
+/// assert_eq!(batch.get(2), Some(Err(Refusal::SHORT_RESULT))); // three ends, and one entry is left
+/// assert_eq!(batch.get(3), Some(Ok(&[2][..])));
+/// assert_eq!(ends, [5, 9, 2]);
+/// assert_eq!(icfl_batch(b"cbabacbac", &[5, 4, 9], &mut work, &mut ends).err(), Some(Refusal::BAD_RECORD_ENDS));
+/// # Ok::<(), Refusal>(())
+/// ```
+#[inline]
+pub fn icfl_batch<'a>(bytes: &[u8], record_ends: &[u32], work: &mut [u16], ends: &'a mut [u16]) -> Result<Batch<'a>, Refusal> {
+    let answer = unsafe {
+        raw::metsroeb_icfl_batch(
+            bytes.as_ptr(),
+            bytes.len(),
+            record_ends.as_ptr(),
+            record_ends.len(),
+            work.as_mut_ptr(),
+            work.len(),
+            ends.as_mut_ptr(),
+            ends.len(),
+        )
+    };
+    Batch::read(answer, record_ends.len(), ends)
 }
 
 /// The strict cut, the Lyndon factorization in the inverse order: the ends of its factors, which are anti-Lyndon words. They

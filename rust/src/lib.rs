@@ -20,8 +20,8 @@
 //! ```
 //!
 //! Buffers are lent as they are: their content before a call does not matter. A refusal leaves every buffer as it was, but
-//! for the work buffer of [`icfl`] and [`icfl_with_breaks`] after [`Refusal::SHORT_RESULT`]; entries past those that a call is
-//! said to write stay as they were.
+//! for the work buffer of [`icfl`], alone or for a record of [`icfl_batch`], and of [`icfl_with_breaks`] after
+//! [`Refusal::SHORT_RESULT`]; entries past those that a call is said to write stay as they were.
 #![no_std]
 #![warn(missing_docs)]
 
@@ -30,9 +30,14 @@ mod calls;
 pub mod raw;
 mod refusal;
 
-pub use answers::{Break, Breaks, Comparison, Extension, Fate, Summary};
-pub use calls::{cfl_in, compare_suffixes, factor_at, find_extension, icfl, icfl_with_breaks, lyndon_table, summarize};
+pub use answers::{Batch, Break, Breaks, Comparison, Extension, Fate, Summary};
+pub use calls::{
+    cfl_in, compare_suffixes, factor_at, find_extension, icfl, icfl_batch, icfl_with_breaks, lyndon_table, summarize,
+};
 pub use refusal::Refusal;
 
 /// The most bytes of a record.
 pub const MOST: usize = 4096;
+
+/// The most records of a batch.
+pub const MOST_RECORDS: usize = 64;

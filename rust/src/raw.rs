@@ -22,6 +22,27 @@ pub struct Summary {
     pub bands: [u16; 13],
 }
 
+/// `metsroeb_reply`: what the piece cut answers for a record of a batch.
+#[repr(C)]
+#[derive(Clone, Copy, Debug, PartialEq, Eq)]
+pub struct Reply {
+    /// 0, or the number of the refusal.
+    pub refusal: u8,
+    /// Number of factors, 0 beside a refusal.
+    pub count: u16,
+}
+
+/// `metsroeb_batch`: a reply for each record of a batch, in their order. Places past the last record, and all of them beside a
+/// refusal of the batch, hold a result of 0.
+#[repr(C)]
+#[derive(Clone, Copy, Debug, PartialEq, Eq)]
+pub struct Batch {
+    /// 0, or the number of the refusal of the whole batch.
+    pub refusal: u8,
+    /// The replies.
+    pub replies: [Reply; 64],
+}
+
 extern "C" {
     /// The test: see [`find_extension`](crate::find_extension). An inverse Lyndon record has 0 in all three numbers.
     pub fn metsroeb_test(
@@ -59,6 +80,19 @@ extern "C" {
         count: *mut u16,
         break_count: *mut u16,
     ) -> u8;
+
+    /// The piece cut of a batch of records: see [`icfl_batch`](crate::icfl_batch). [`Batch::read`](crate::Batch::read) reads the
+    /// replies beside the entries of `ends`.
+    pub fn metsroeb_icfl_batch(
+        bytes: *const u8,
+        bytes_len: usize,
+        record_ends: *const u32,
+        record_ends_len: usize,
+        work: *mut u16,
+        work_len: usize,
+        ends: *mut u16,
+        ends_len: usize,
+    ) -> Batch;
 
     /// The strict cut: see [`cfl_in`](crate::cfl_in).
     pub fn metsroeb_cfl_in(record: *const u8, record_len: usize, ends: *mut u16, ends_len: usize, count: *mut u16) -> u8;

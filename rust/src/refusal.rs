@@ -22,10 +22,10 @@ impl Refusal {
     pub const EMPTY_RECORD: Refusal = Refusal::line(1);
     /// All calls: the record is longer than [`MOST`](crate::MOST).
     pub const LONG_RECORD: Refusal = Refusal::line(2);
-    /// Test, piece cut (also with its breaks): the work buffer has fewer entries than the record's length (test) or three times
-    /// that (piece cut).
+    /// Test, piece cut (also with its breaks, also of a batch): the work buffer has fewer entries than the record's length
+    /// (test) or three times that (piece cut).
     pub const SHORT_WORK: Refusal = Refusal::line(3);
-    /// Both cuts, also the one with breaks, start table: a result buffer has fewer entries than the answer.
+    /// All cuts, also of a batch, start table: a result buffer, or what is left of it, has fewer entries than the answer.
     pub const SHORT_RESULT: Refusal = Refusal::line(4);
     /// Comparison: the range's first place is not below its end, or its end is above the record's length.
     pub const BAD_RANGE: Refusal = Refusal::line(5);
@@ -38,6 +38,9 @@ impl Refusal {
     pub const BAD_NUMBER: Refusal = Refusal::line(8);
     /// Test, after [`SHORT_WORK`](Refusal::SHORT_WORK): the record holds a mark, the byte 255.
     pub const MARKED_RECORD: Refusal = Refusal::line(9);
+    /// Batch, before any of its records: the list of their ends is empty, has more than [`MOST_RECORDS`](crate::MOST_RECORDS),
+    /// falls somewhere, or does not end with the bytes lent.
+    pub const BAD_RECORD_ENDS: Refusal = Refusal::line(10);
 
     const fn line(number: u8) -> Refusal {
         match NonZeroU8::new(number) {
@@ -79,6 +82,7 @@ impl Refusal {
             7 => "the list of ends is empty, its first end is 0, it is not strictly rising, or its last end is not the length",
             8 => "the piece number is not below the number of ends",
             9 => "the record holds a mark (test)",
+            10 => "the list of record ends is empty, has more than 64 ends, falls somewhere, or does not end with the bytes lent",
             _ => "no line of the table that this crate knows",
         }
     }

@@ -1,6 +1,7 @@
 /* Calls each function on record H and compares the answers with paper 01's; the cut with its breaks on record I, as request
  * 102 has it; the comparison also on record G, whose starts agree past the end of its first piece; the summary also where two
- * parts are equally long; test, cuts and table on a record with a mark. */
+ * parts are equally long; test, cuts and table on a record with a mark; batches of records, with refusals among them and
+ * with lists of record ends that are refused. */
 #include "metsroeb.h"
 
 #include <stdio.h>
@@ -25,6 +26,95 @@ static void expect_entries(const char *what, const uint16_t *got, const uint16_t
             differed = 1;
         }
     }
+}
+
+/* Every place of the answer: these replies, then results of 0. */
+static void expect_replies(const char *what, const metsroeb_batch *got, long refusal, const metsroeb_reply *want, size_t count)
+{
+    size_t k;
+    expect(what, got->refusal, refusal);
+    for (k = 0; k < METSROEB_MOST_RECORDS; k++) {
+        if (got->replies[k].refusal != (k < count ? want[k].refusal : 0) ||
+            got->replies[k].count != (k < count ? want[k].count : 0)) {
+            printf("%s: place %u: refusal %u, count %u\n", what, (unsigned)k, (unsigned)got->replies[k].refusal,
+                   (unsigned)got->replies[k].count);
+            differed = 1;
+        }
+    }
+}
+
+/* The whole buffers: so many zeros in work, these ends, and all else as it was. */
+static void expect_buffers(const char *what, const uint16_t *work, size_t zeros, const uint16_t *got, const uint16_t *ends,
+                           size_t count)
+{
+    size_t i;
+    for (i = 0; i < 40; i++) {
+        expect(what, work[i], i < zeros ? 0 : 0x5a5a);
+    }
+    for (i = 0; i < 9; i++) {
+        expect(what, got[i], i < count ? ends[i] : 0x5a5a);
+    }
+}
+
+/* H, abc, an empty record, baba, I, ba, a record of 4,097 bytes, a mark between two b. */
+static void batches(void)
+{
+    static const uint32_t record_ends[] = {9, 12, 12, 16, 33, 35, 4132, 4135};
+    static const metsroeb_reply replies[] = {{0, 2}, {4, 0}, {1, 0}, {0, 1}, {3, 0}, {0, 1}, {2, 0}, {4, 0}};
+    static const uint16_t packed[] = {5, 9, 4, 2};
+    static const metsroeb_reply empty = {1, 0}, mark = {0, 3}, short_result = {4, 0};
+    static const uint16_t mark_ends[] = {1, 2, 3};
+    static const uint32_t lists[][3] = {{5, 4, 9}, {5, 9, 8}, {5, 8, 8}, {5, 9, 10}, {5, 9, 65545}, {5, 9, 4294967295u}, {0, 10, 9}};
+    static uint8_t bytes[4135];
+    uint32_t many[65];
+    metsroeb_reply cut[64];
+    uint16_t work[40], ends[9];
+    metsroeb_batch batch;
+    size_t k;
+
+    memset(bytes, 'a', sizeof bytes);
+    memcpy(bytes, "cbabacbacabcbabacbabacaacbabacbacba", 35);
+    memcpy(bytes + 4132, "b\377b", 3);
+    memset(work, 0x5a, sizeof work);
+    memset(ends, 0x5a, sizeof ends);
+    batch = metsroeb_icfl_batch(bytes, 4135, record_ends, 8, work, 40, ends, 4);
+    expect_replies("icfl_batch", &batch, 0, replies, 8);
+    expect_buffers("icfl_batch: buffers", work, 27, ends, packed, 4);
+
+    memset(work, 0x5a, sizeof work);
+    memset(ends, 0x5a, sizeof ends);
+    for (k = 0; k < sizeof lists / sizeof lists[0]; k++) {
+        batch = metsroeb_icfl_batch(bytes, 9, lists[k], 3, work, 40, ends, 9);
+        expect_replies("icfl_batch, a faulty list", &batch, 10, replies, 0);
+    }
+    batch = metsroeb_icfl_batch(bytes, 9, lists[0], 0, work, 40, ends, 9);
+    expect_replies("icfl_batch, no end", &batch, 10, replies, 0);
+    many[0] = 0;
+    batch = metsroeb_icfl_batch(bytes, 0, many, 1, work, 40, ends, 9);
+    expect_replies("icfl_batch, an end of 0 and no byte", &batch, 0, &empty, 1);
+    for (k = 0; k < 65; k++) {
+        many[k] = (uint32_t)k + 1;
+    }
+    batch = metsroeb_icfl_batch(bytes, 65, many, 65, work, 40, ends, 9);
+    expect_replies("icfl_batch, 65 ends", &batch, 10, replies, 0);
+    expect_buffers("icfl_batch, refused: buffers", work, 0, ends, packed, 0);
+
+    for (k = 0; k < 64; k++) {
+        cut[k].refusal = k < 9 ? 0 : 4;
+        cut[k].count = k < 9 ? 1 : 0;
+    }
+    batch = metsroeb_icfl_batch(bytes, 64, many, 64, work, 40, ends, 9);
+    expect_replies("icfl_batch, 64 ends", &batch, 0, cut, 64);
+
+    memset(work, 0x5a, sizeof work);
+    memset(ends, 0x5a, sizeof ends);
+    many[0] = 3;
+    batch = metsroeb_icfl_batch(bytes + 4132, 3, many, 1, work, 40, ends, 2);
+    expect_replies("icfl_batch, too few entries", &batch, 0, &short_result, 1);
+    expect_buffers("icfl_batch, too few entries: buffers", work, 9, ends, mark_ends, 0);
+    batch = metsroeb_icfl_batch(bytes + 4132, 3, many, 1, work, 40, ends, 3);
+    expect_replies("icfl_batch, a mark", &batch, 0, &mark, 1);
+    expect_buffers("icfl_batch, a mark: buffers", work, 9, ends, mark_ends, 3);
 }
 
 int main(void)
@@ -133,6 +223,8 @@ int main(void)
     summary = metsroeb_summarize(record, n, equal, 3);
     expect("summarize: longest of 4, 4, 1", summary.longest, 4);
     expect("summarize: from, the latest of them", summary.from, 4);
+
+    batches();
 
     if (!differed) {
         puts("ok");

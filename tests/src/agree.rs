@@ -112,6 +112,52 @@ pub fn icfl_with_breaks(calls: &Calls, word: &[u8], answers: &Answers, sizes: [u
     record.expect(&record_before, &what);
 }
 
+/// The ends of each record of a batch that can be cut, where the list of record ends says where it stands; none for the others.
+pub fn batch_answers(bytes: &[u8], record_ends: &[u32]) -> Vec<Vec<u16>> {
+    let starts = [0].iter().chain(record_ends);
+    let records = starts.zip(record_ends).map(|(&from, &end)| bytes.get(from as usize..end as usize).unwrap_or(&[]));
+    let answer = |word: &[u8]| match word.len() {
+        1..=100 => reference::icfl(word),
+        101..=4096 => (PEER.icfl)(word, &mut vec![0; 3 * word.len()], &mut vec![0; word.len()]).unwrap().to_vec(),
+        _ => Vec::new(),
+    };
+    records.map(answer).collect()
+}
+
+/// `sizes` are the numbers of work entries and of entries for the ends.
+pub fn icfl_batch(
+    calls: &Calls,
+    bytes: &[u8],
+    record_ends: &[u32],
+    answers: &[Vec<u16>],
+    sizes: [usize; 2],
+    random: &mut Random,
+) {
+    let shown_ends = &record_ends[..record_ends.len().min(66)];
+    let what = format!("icfl_batch with {sizes:?} entries, record ends {shown_ends:?}, on {}", shown(bytes));
+    let (mut record, mut list) = (Lent::record(bytes, random), Lent::record_ends(record_ends, random));
+    let mut buffers = sizes.map(|size| Lent::entries(size, random));
+    let (record_before, list_before, mut buffers_after) = (record.clone(), list.clone(), buffers.clone());
+    let [work, ends] = buffers.each_mut().map(Lent::part);
+    let mut place = ends.as_ptr();
+    let got = (calls.icfl_batch)(record.part(), list.part(), work, ends);
+    let got = got.map(|batch| {
+        assert_eq!((batch.len(), batch.iter().len()), (record_ends.len(), record_ends.len()), "{what}");
+        let replies = batch.iter().inspect(|&reply| {
+            begins(&what, reply, place);
+            place = place.wrapping_add(reply.map_or(0, <[u16]>::len));
+        });
+        replies.map(|reply| reply.map_err(Refusal::number)).collect::<Vec<_>>()
+    });
+    let [work, ends] = buffers_after.each_mut().map(Lent::part);
+    same(&what, got, promise::icfl_batch(bytes.len(), record_ends, answers, work, ends));
+    for (buffer, after) in buffers.iter().zip(&buffers_after) {
+        buffer.expect(after, &what);
+    }
+    list.expect(&list_before, &what);
+    record.expect(&record_before, &what);
+}
+
 fn filling(name: &str, call: Filling, word: &[u8], answer: &[u16], len: usize, random: &mut Random) {
     let what = format!("{name} with {len} result entries on {}", shown(word));
     let mut record = Lent::record(word, random);

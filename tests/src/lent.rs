@@ -44,6 +44,15 @@ impl Lent<u16> {
     }
 }
 
+impl Lent<u32> {
+    /// A list of record ends.
+    pub fn record_ends(content: &[u32], random: &mut Random) -> Lent<u32> {
+        let mut lent = Lent::around(content.len(), random, |random| random.draw() as u32);
+        lent.part().copy_from_slice(content);
+        lent
+    }
+}
+
 impl Lent<u8> {
     /// A record.
     pub fn record(word: &[u8], random: &mut Random) -> Lent<u8> {

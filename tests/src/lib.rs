@@ -6,7 +6,7 @@ pub mod promise; // refusals and buffers, by paper 01's table
 pub mod reference; // answers, by paper 01's definitions
 pub mod words; // words of many kinds, from a seed
 
-use metsroeb::{Breaks, Comparison, Extension, Refusal, Summary};
+use metsroeb::{Batch, Breaks, Comparison, Extension, Refusal, Summary};
 
 pub type Filling = for<'a> fn(&[u8], &'a mut [u16]) -> Result<&'a [u16], Refusal>;
 
@@ -16,6 +16,7 @@ pub struct Calls {
     pub find_extension: fn(&[u8], &mut [u16]) -> Result<Extension, Refusal>,
     pub icfl: for<'a> fn(&[u8], &mut [u16], &'a mut [u16]) -> Result<&'a [u16], Refusal>,
     pub icfl_with_breaks: for<'a> fn(&[u8], &mut [u16], &'a mut [u16], &'a mut [u16]) -> Result<(&'a [u16], Breaks<'a>), Refusal>,
+    pub icfl_batch: for<'a> fn(&[u8], &[u32], &mut [u16], &'a mut [u16]) -> Result<Batch<'a>, Refusal>,
     pub cfl_in: Filling,
     pub lyndon_table: Filling,
     pub compare_suffixes: fn(&[u8], usize, usize, usize, usize) -> Result<Comparison, Refusal>,
@@ -29,6 +30,7 @@ macro_rules! calls_of {
             find_extension: $of::find_extension,
             icfl: $of::icfl,
             icfl_with_breaks: $of::icfl_with_breaks,
+            icfl_batch: $of::icfl_batch,
             cfl_in: $of::cfl_in,
             lyndon_table: $of::lyndon_table,
             compare_suffixes: $of::compare_suffixes,

@@ -6,4 +6,4 @@ mod plain;
 pub mod raw;
 
 pub use calls::*;
-use metsroeb::{Breaks, Comparison, Extension, Refusal, Summary};
+use metsroeb::{Batch, Breaks, Comparison, Extension, Refusal, Summary};

@@ -57,6 +57,34 @@ pub fn icfl_with_breaks<'a>(
     Ok((ends_answer, breaks_answer))
 }
 
+fn record_ends_of(length: usize, record_ends: &[u32]) -> Result<Vec<usize>, u8> {
+    let ends: Vec<usize> = record_ends.iter().map(|&end| end as usize).collect();
+    refuse(10, ends.is_empty())?;
+    refuse(10, ends.len() > 64)?;
+    refuse(10, (1..ends.len()).any(|k| ends[k] < ends[k - 1]))?;
+    refuse(10, ends[ends.len() - 1] != length)?;
+    Ok(ends)
+}
+
+/// For each record what a single call gives with what is left of the result buffer. `answers` has the ends of each record that is cut.
+pub fn icfl_batch<'a>(
+    length: usize,
+    record_ends: &[u32],
+    answers: &'a [Vec<u16>],
+    work: &mut [u16],
+    ends: &mut [u16],
+) -> Result<Vec<Result<&'a [u16], u8>>, u8> {
+    let (mut begun, mut used) = (0, 0);
+    let mut replies = Vec::new();
+    for (end, answer) in record_ends_of(length, record_ends)?.into_iter().zip(answers) {
+        let reply = icfl(end - begun, answer, work, &mut ends[used..]);
+        used += reply.map_or(0, <[u16]>::len);
+        begun = end;
+        replies.push(reply);
+    }
+    Ok(replies)
+}
+
 /// Five entries for each break.
 fn entries(breaks: &[Break]) -> Vec<u16> {
     let five = |&Break { place, begun, border, fate }: &Break| match fate {

@@ -210,6 +210,7 @@ fn refusals_print_their_conditions() {
         Refusal::BAD_ENDS,
         Refusal::BAD_NUMBER,
         Refusal::MARKED_RECORD,
+        Refusal::BAD_RECORD_ENDS,
     ];
     let unknown = Refusal::check(255).unwrap_err().condition();
     for (k, line) in lines.into_iter().enumerate() {

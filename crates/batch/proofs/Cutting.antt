@@ -16,7 +16,8 @@ use Rattle.checks.specs.declared.Counted.{Counted}
 use Rattle.checks.proofs.LineLaws.{IsRefused, refused, unmet, filled-front}
 use Rattle.checks.proofs.RecordEndsLaws.{Climbs, climbs-head, climbs-tail, climbs-most, listed}
 use Rattle.icfl.specs.Icfl.{IcflDone}
-use Rattle.batch.specs.Batch.{recordsFrom, Progress, entriesUsed, cutRecord, cutRecords, batchOf, place, placesOf, batchWith, batchLines, BatchDone}
+use Rattle.batch.specs.Batch.{recordsFrom, Progress, entriesUsed, cutRecord, cutRecords, batchOf, place, batchWith, batchLines, BatchDone}
+use Rattle.batch.specs.declared.Batch.{Batch}
 use Rattle.batch.specs.declared.Place.{Place}
 
 pub batch-refused : (bytes es work ends : List ℕ) {k : Checked} {m : ℕ} → k ≡ tried (batchLines es (length bytes)) → IsRefused k → m ≡ numberOf k
@@ -31,46 +32,50 @@ batch-refused bytes es work ends e h z =
 
 -- ---- the loop
 
+-- an answer stored in its place
+abbrev pub placedAt : ℕ → Counted → Batch → Batch
+placedAt i a r = record { refusal = r .refusal; places = set (r .places) i (place a) }
+
 -- one more answer takes the first place past the others
-pub placed-next : (answers : List Counted) (a : Counted) {i : ℕ} → length answers ≡ i → i < mostRecords
-    → set (placesOf answers) i (place a) ≡ placesOf (answers ++ a ∷ [])
+placed-next : (answers : List Counted) (a : Counted) {i : ℕ} → length answers ≡ i → i < mostRecords → placedAt i a (batchWith 0 answers) ≡ batchWith 0 (answers ++ a ∷ [])
 placed-next answers a {i} n l =
     let m : mostRecords - length answers ≡ suc (mostRecords - length (answers ++ a ∷ [])) = rw (length-append answers (a ∷ [])) (omega arith) in
     let blank = place (Counted.Count 0) in
     let rest = replicate (mostRecords - length (answers ++ a ∷ [])) blank in
-    ap (λ (k : ℕ). set (map place answers ++ replicate k blank) i (place a)) m
+    ap (λ (t : List Place). record { refusal = 0; places = t })
+    (ap (λ (k : ℕ). set (map place answers ++ replicate k blank) i (place a)) m
     ∙ set-at (map place answers) blank rest (place a) i (length-map answers place ∙ n)
     ∙ sym (append-assoc (map place answers) (place a ∷ []) rest)
-    ∙ ap (λ (t : List Place). t ++ rest) (sym (map-append place answers (a ∷ [])))
+    ∙ ap (λ (t : List Place). t ++ rest) (sym (map-append place answers (a ∷ []))))
 
 -- an answer uses no more entries than the buffer has
 used-fits : {w work left : List ℕ} {a : Counted} {work₁ left₁ : List ℕ} → IcflDone w work left a work₁ left₁ → entriesUsed a ≤ length left₁
 used-fits {a = Counted.Count n} d = filled-front (d .filled) .1
 used-fits {a = Counted.Refused number} d = omega arith
 
-pub record Cutting (bytes es work₀ ends₀ work ends : List ℕ) (places : List Place) (from used i : ℕ) : Type 0 where
+pub record Cutting (bytes es work₀ ends₀ work ends : List ℕ) (r : Batch) (from used i : ℕ) : Type 0 where
   pub answers : List Counted
   pub count : length answers ≡ i
-  pub placed : places ≡ placesOf answers
+  pub placed : r ≡ batchWith 0 answers
   pub on : cutRecords (record { answers = answers; work = work; ends = ends; used = used }) (recordsFrom from (drop i es) bytes) ≡ batchOf bytes es work₀ ends₀
   pub climbs : Climbs (length bytes) from (drop i es)
   pub few : length es ≤ mostRecords
   pub inside : i ≤ length es
   pub room : used ≤ length ends
 
-pub cutting-starts : (bytes es work ends : List ℕ) → tried (batchLines es (length bytes)) ≡ Passed → Cutting bytes es work ends work ends (placesOf []) 0 0 0
+pub cutting-starts : (bytes es work ends : List ℕ) → tried (batchLines es (length bytes)) ≡ Passed → Cutting bytes es work ends work ends (batchWith 0 []) 0 0 0
 cutting-starts bytes es work ends p =
     let l = listed es (length bytes) (unmet (batchLines es (length bytes)) p .0) in
     record { answers = []; count = refl; placed = refl; on = refl; climbs = l .climbs; few = l .few; inside = omega arith; room = omega arith }
 
-module _ {bytes es work₀ ends₀ work ends : List ℕ} {places : List Place} {from used i : ℕ} (g : Cutting bytes es work₀ ends₀ work ends places from used i) where
-  pub cutting-ends : tried (batchLines es (length bytes)) ≡ Passed → length es ≤ i → BatchDone bytes es work₀ ends₀ (record { refusal = 0; places = places }) work ends
+module _ {bytes es work₀ ends₀ work ends : List ℕ} {r : Batch} {from used i : ℕ} (g : Cutting bytes es work₀ ends₀ work ends r from used i) where
+  pub cutting-ends : tried (batchLines es (length bytes)) ≡ Passed → length es ≤ i → BatchDone bytes es work₀ ends₀ r work ends
   unfolding recordsFrom cutRecords
   cutting-ends p l =
       let none : drop i es ≡ [] = drop-of-length-le es {i = i} l in
       let whole = ap (λ (t : List ℕ). cutRecords (record { answers = g .answers; work = work; ends = ends; used = used }) (recordsFrom from t bytes)) (sym none) ∙ g .on in
       record {
-        answer = rw p (ap (λ (t : List Place). record { refusal = 0; places = t }) (g .placed) ∙ ap (λ (q : Progress). batchWith 0 (q .answers)) whole);
+        answer = rw p (g .placed ∙ ap (λ (q : Progress). batchWith 0 (q .answers)) whole);
         result = rw p (ap (λ (q : Progress). q .ends) whole);
         worked = rw p (ap (λ (q : Progress). q .work) whole);
       }
@@ -95,12 +100,12 @@ module _ {bytes es work₀ ends₀ work ends : List ℕ} {places : List Place} {
     record-end = climbs-most (climbs-tail climbs-on)
 
     pub cutting-on : {a : Counted} {work₁ left₁ : List ℕ} → IcflDone (slice from (getD es i 0) bytes) work (drop used ends) a work₁ left₁
-        → Cutting bytes es work₀ ends₀ work₁ (take used ends ++ left₁) (set places i (place a)) (getD es i 0) (used + entriesUsed a) (i + 1)
+        → Cutting bytes es work₀ ends₀ work₁ (take used ends ++ left₁) (placedAt i a r) (getD es i 0) (used + entriesUsed a) (i + 1)
     unfolding recordsFrom cutRecords cutRecord
     cutting-on {a} {work₁} {left₁} d = record {
       answers = g .answers ++ a ∷ [];
       count = length-append (g .answers) (a ∷ []) ∙ omega (arith, g .count);
-      placed = ap (λ (t : List Place). set t i (place a)) (g .placed) ∙ placed-next (g .answers) a (g .count) (omega (arith, g .few));
+      placed = ap (placedAt i a) (g .placed) ∙ placed-next (g .answers) a (g .count) (omega (arith, g .few));
       on = rw (d .filled .answer, d .filled .result, d .worked)
           (ap (λ (t : List ℕ). cutRecords (record { answers = g .answers; work = work; ends = ends; used = used }) (recordsFrom from t bytes)) (sym next) ∙ g .on);
       climbs = climbs-tail climbs-on;
@@ -111,6 +116,6 @@ module _ {bytes es work₀ ends₀ work ends : List ℕ} {places : List Place} {
 
     -- the same, as the code lends the record and what is left of the result buffer
     pub lent-on : {a : Counted} {n : ℕ} {work₁ left₁ : List ℕ} → IcflDone (part from (getD es i 0) bytes) work (rest used ends) a work₁ left₁ → n ≡ entriesUsed a
-        → Cutting bytes es work₀ ends₀ work₁ (take used ends ++ (left₁ ++ drop (length ends - used) (drop used ends))) (set places i (place a)) (getD es i 0) (used + n)
+        → Cutting bytes es work₀ ends₀ work₁ (take used ends ++ (left₁ ++ drop (length ends - used) (drop used ends))) (placedAt i a r) (getD es i 0) (used + n)
         (i + 1)
     lent-on {left₁ = left₁} d z = rw (rest-back used ends left₁, z) (cutting-on (rw (part-is from (getD es i 0) bytes, rest-is used ends) at d))

@@ -33,15 +33,16 @@ fn entries_used(answer: Counted) -> usize
 pub fn icfl_batch(bytes: &[u8], record_ends: &[u32], work: &mut [u16], ends: &mut [u16]) -> Batch
     ensures { λ r. ⌜ BatchDone (now (bytes .entry)) (now («record_ends» .entry)) (now (work .entry)) (now (ends .entry)) r (now (work .exit)) (now (ends .exit)) ⌝ }
 {
-    let mut places = [Place {
-        answer: Counted::Count(0),
-    }; MOST_RECORDS];
+    let mut answers = Batch {
+        refusal: 0,
+        places: [Place {
+            answer: Counted::Count(0),
+        }; MOST_RECORDS],
+    };
     let listed = checks::check_record_ends(record_ends, bytes.len());
     let Checked::Passed = listed else {
-        return Batch {
-            refusal: listed.number(),
-            places,
-        };
+        answers.refusal = listed.number();
+        return answers;
     };
     let mut from: usize = 0;
     let mut used: usize = 0;
@@ -50,9 +51,9 @@ pub fn icfl_batch(bytes: &[u8], record_ends: &[u32], work: &mut [u16], ends: &mu
         let end = record_ends[i] as usize;
         let answer = icfl::icfl(&bytes[from..end], work, &mut ends[used..]);
         used += entries_used(answer);
-        places[i] = Place { answer };
+        answers.places[i] = Place { answer };
         from = end;
         i += 1;
     }
-    Batch { refusal: 0, places }
+    answers
 }

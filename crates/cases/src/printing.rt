@@ -30,6 +30,7 @@ fn print_lent(limits: bool, run: &Run) {
     print_line(b"find_extension", Call::Test, limits, run);
     print_line(b"icfl", Call::Pieces, limits, run);
     print_line(b"icfl_with_breaks", Call::Breaks, limits, run);
+    print_line(b"icfl_batch", Call::Batch, limits, run);
     print_line(b"cfl_in", Call::Strict, limits, run);
     print_line(b"lyndon_table", Call::Starts, limits, run);
 }

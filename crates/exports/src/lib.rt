@@ -1,7 +1,6 @@
 //! The calls for C and Rust: include/metsroeb.h has their signatures. Each returns the refusal's number, 0 for a result; results go to
 //! numbers that the caller lends, 0 beside a refusal.
 use batch::MOST_RECORDS;
-use batch::Place;
 use checks::Checked;
 use checks::Counted;
 use compare::Comparison;
@@ -10,7 +9,7 @@ use icfl::CountedBreaks;
 use summary::Summary;
 ghost use mathlib.Core.Path.{_≡_};
 ghost use Rattle.summary.specs.Summary.{Summarized};
-ghost use Rattle.exports.specs.Exports.{Small, replyOf, EachSmall, repliesOf, TestNumbers, IcflNumbers, BreaksNumbers, BatchNumbers, CflInNumbers, TableNumbers, ComparisonNumbers, FactorNumbers};
+ghost use Rattle.exports.specs.Exports.{Small, replyOf, TestNumbers, IcflNumbers, BreaksNumbers, BatchNumbers, CflInNumbers, TableNumbers, ComparisonNumbers, FactorNumbers};
 
 /// A count or a refusal, as two numbers.
 #[repr(C)]
@@ -40,24 +39,6 @@ fn numbers_of(answer: Counted) -> Reply
             count: 0,
         },
     }
-}
-
-fn replies_of(places: [Place; MOST_RECORDS]) -> [Reply; MOST_RECORDS]
-    requires { ⌜ EachSmall places ⌝ }
-    ensures { λ r. ⌜ r ≡ repliesOf places ⌝ }
-{
-    let mut replies = [Reply {
-        refusal: 0,
-        count: 0,
-    }; MOST_RECORDS];
-    let mut i: usize = 0;
-    while i < MOST_RECORDS {
-        let place = places[i];
-        let answer = place.answer;
-        replies[i] = numbers_of(answer);
-        i += 1;
-    }
-    replies
 }
 
 #[no_mangle]
@@ -144,10 +125,20 @@ pub extern "C" fn metsroeb_icfl_batch(
     ensures { λ r. ⌜ BatchNumbers (now (bytes .entry)) (now («record_ends» .entry)) (now (work .entry)) (now (ends .entry)) r (now (work .exit)) (now (ends .exit)) ⌝ }
 {
     let answers = batch::icfl_batch(bytes, record_ends, work, ends);
-    let places = answers.places;
+    let mut replies = [Reply {
+        refusal: 0,
+        count: 0,
+    }; MOST_RECORDS];
+    let mut i: usize = 0;
+    while (i < MOST_RECORDS) & (i < record_ends.len()) {
+        let place = answers.places[i];
+        let answer = place.answer;
+        replies[i] = numbers_of(answer);
+        i += 1;
+    }
     Replies {
         refusal: answers.refusal,
-        replies: replies_of(places),
+        replies,
     }
 }
 

@@ -1,11 +1,13 @@
 //! Prints what paper 01 and the requests say of single records, as the calls answer it. The numbers that must come are the papers', and stand in `stdout`;
 //! the file `args` has the records A to K.
+mod batches; // cards of records
 mod breaks; // the piece cut with its breaks
 mod comparisons; // two starts: the sign, and how far they agree
 mod marks; // records with marks
 mod printing; // lists of numbers, refusals and answers
 mod refusals; // the refusals of every call
 
+use batches::print_batches;
 use breaks::print_joins;
 use breaks::print_room_for_breaks;
 use checks::MOST;
@@ -93,6 +95,7 @@ fn main() {
     print_joins();
     print_room_for_breaks();
     print_marks();
+    print_batches();
     print_refusals(b"ba, a mark: ", b"ba\xff", &[3]);
     let word = [97u8; MOST + 1];
     print_refusals(b"4096 letters: ", &word[..MOST], &[4096]);

@@ -1,4 +1,4 @@
-//! The refusals of every call on one record.
+//! The refusals of every call that takes one record.
 use super::printing::print_list;
 use checks::Counted;
 use checks::MOST;

@@ -24,6 +24,7 @@ pub enum Call {
     Common,
     Part,
     Summary,
+    Batch,
 }
 
 /// Entries of the buffers of a call, those that it needs or those that it is lent: for its work, for its list, and for the breaks beside that.

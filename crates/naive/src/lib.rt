@@ -12,6 +12,7 @@ mod parts; // the parts that a list of ends marks, and their summary
 mod calls; // the calls by name, and the lists that they answer on a record without marks
 mod stretches; // the same on records with marks, stretch by stretch
 mod refusals; // the table of refusals
+mod batch; // a card of records, one after another
 
 pub use access::BREAK_ENTRIES;
 pub use access::ENTRIES;
@@ -25,6 +26,12 @@ pub use access::set_letter;
 pub use access::store;
 pub use access::store_three;
 pub use access::tail;
+pub use batch::Outcome;
+pub use batch::RECORDS;
+pub use batch::batch_refusal;
+pub use batch::cut_batch;
+pub use batch::record_end;
+pub use batch::record_start;
 pub use calls::Call;
 pub use calls::Room;
 pub use calls::needed;

@@ -3,9 +3,11 @@ mod run; // the generator of pseudo-random numbers, and the counts of agreeing a
 mod shapes; // records of a shape: all short ones, periodic and random ones, ramps, plateaus
 mod marks; // marks, put into these
 mod records; // the records on which the calls are compared: random ones, and shapes of a length at the boundaries
+mod batches; // cards of records
 mod numbers; // numbers at boundaries, and lists of them
 mod buffers; // buffers filled before a call and looked through after it
 
+pub use batches::random_batch;
 pub use buffers::fill;
 pub use buffers::is_left;
 pub use marks::spell_with_marks;

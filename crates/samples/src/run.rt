@@ -4,7 +4,7 @@ use naive::Call;
 use naive::plus;
 
 // How many calls are compared.
-const CALLS: usize = 9;
+const CALLS: usize = 10;
 
 /// Where the generator's state stands: after two counts for each call, and two for its cases at the boundaries of the refusals.
 pub const STATE: usize = 4 * CALLS;
@@ -34,6 +34,7 @@ pub fn place(call: Call, limits: bool) -> usize {
         Call::Part => 12,
         Call::Summary => 14,
         Call::Breaks => 16,
+        Call::Batch => 18,
     };
     if limits {
         plus(number, 2 * CALLS)

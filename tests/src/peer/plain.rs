@@ -1,7 +1,7 @@
 //! The algorithms, with the library's checks, passes and buffers.
-use super::raw::Summary;
+use super::raw::{Batch, Reply, Summary};
 use super::Extension;
-use metsroeb::MOST;
+use metsroeb::{MOST, MOST_RECORDS};
 
 /// A mark is a factor of every cut by itself. It is larger than every other letter, so a scan that does not begin with one ends
 /// before it.
@@ -27,6 +27,13 @@ fn check_ends(ends: &[u16], length: usize) -> Result<(), u8> {
         return Err(7);
     }
     Ok(())
+}
+
+fn check_record_ends(ends: &[u32], length: usize) -> Result<(), u8> {
+    match ends.last() {
+        Some(&last) if ends.len() <= MOST_RECORDS && ends.is_sorted() && last as usize == length => Ok(()),
+        _ => Err(10),
+    }
 }
 
 /// What a scan finds: a letter larger than the one it meets, with p and r there; or that there is none before a mark or the end.
@@ -126,6 +133,28 @@ pub fn icfl(record: &[u8], work: &mut [u16], ends: &mut [u16]) -> Result<usize, 
     };
     work.fill(0);
     answer
+}
+
+/// The records one after another, each with what is left of the result buffer.
+pub fn icfl_batch(bytes: &[u8], record_ends: &[u32], work: &mut [u16], ends: &mut [u16]) -> Batch {
+    let mut batch = Batch { refusal: 0, replies: [Reply { refusal: 0, count: 0 }; MOST_RECORDS] };
+    if let Err(no) = check_record_ends(record_ends, bytes.len()) {
+        batch.refusal = no;
+        return batch;
+    }
+    let (mut from, mut used) = (0, 0);
+    for (reply, &end) in batch.replies.iter_mut().zip(record_ends) {
+        let end = end as usize;
+        match icfl(&bytes[from..end], work, &mut ends[used..]) {
+            Ok(count) => {
+                reply.count = count as u16;
+                used += count;
+            }
+            Err(no) => reply.refusal = no,
+        }
+        from = end;
+    }
+    batch
 }
 
 /// A break is kept where its place is the next end. Where ends lie before it, a stretch and its mark are over.

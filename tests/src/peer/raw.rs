@@ -1,7 +1,7 @@
 //! The header's functions over the peer's algorithms. The caller keeps the header's terms.
 #![allow(clippy::missing_safety_doc, clippy::too_many_arguments)]
 use super::{plain, Extension};
-pub use metsroeb::raw::Summary;
+pub use metsroeb::raw::{Batch, Reply, Summary};
 use std::slice::{from_raw_parts, from_raw_parts_mut};
 
 /// Stores the count, 0 beside a refusal, and gives the refusal's number.
@@ -67,6 +67,25 @@ pub unsafe extern "C" fn metsroeb_icfl_breaks(
     );
     store_count(answer.map(|(_, breaks)| breaks), &mut *break_count);
     store_count(answer.map(|(ends, _)| ends), &mut *count)
+}
+
+#[inline(never)]
+pub unsafe extern "C" fn metsroeb_icfl_batch(
+    bytes: *const u8,
+    bytes_len: usize,
+    record_ends: *const u32,
+    record_ends_len: usize,
+    work: *mut u16,
+    work_len: usize,
+    ends: *mut u16,
+    ends_len: usize,
+) -> Batch {
+    plain::icfl_batch(
+        from_raw_parts(bytes, bytes_len),
+        from_raw_parts(record_ends, record_ends_len),
+        from_raw_parts_mut(work, work_len),
+        from_raw_parts_mut(ends, ends_len),
+    )
 }
 
 #[inline(never)]

@@ -11,11 +11,11 @@ use Rattle.batch.proofs.icfl_batch.Statement.{statement}
 use Rattle.batch.proofs.icfl_batch.Tie as tie
 
 abbrev Inv-loop : tie.InvT-loop
-Inv-loop bytes record-ends work₀ ends₀ places₀ from₀ used₀ i₀ work ends places from used i =
-    Cutting bytes record-ends work₀ ends₀ work ends places from used i × (length work ≡ length work₀) × (length ends ≡ length ends₀)
+Inv-loop bytes record-ends work₀ ends₀ answers₀ from₀ used₀ i₀ work ends answers from used i =
+    Cutting bytes record-ends work₀ ends₀ work ends answers from used i × (length work ≡ length work₀) × (length ends ≡ length ends₀)
 
 abbrev μ-loop : tie.MeasureT-loop
-μ-loop bytes record-ends work₀ ends₀ places₀ from₀ used₀ i₀ work ends places from used i = length record-ends - i
+μ-loop bytes record-ends work₀ ends₀ answers₀ from₀ used₀ i₀ work ends answers from used i = length record-ends - i
 
 check-record-ends-requires : tie.Need-check-record-ends-requires Inv-loop μ-loop
 check-record-ends-requires c κs = search needs
@@ -78,11 +78,11 @@ add-used c =
     let start = turn .before .before .before .before .before .before .before .before .before in
     omega (arith, start .good, lent-room (turn .before .loop .inv .0) (at-cut .icfl .ensures) (c .entries-used .ensures) (at-cut .icfl .kept .1 .1 .0))
 
-mul-places : tie.Need-mul-places Inv-loop μ-loop
-mul-places c = search needs
+mul-t28 : tie.Need-mul-t28 Inv-loop μ-loop
+mul-t28 c = search needs
 
-array-set-from-places : tie.Need-array-set-from-places Inv-loop μ-loop
-array-set-from-places c = search needs
+element-set-from-answers : tie.Need-element-set-from-answers Inv-loop μ-loop
+element-set-from-answers c = search needs
 
 add-i : tie.Need-add-i Inv-loop μ-loop
 add-i c = search needs
@@ -115,5 +115,5 @@ pub icfl-batch-spec : {M : Type 1} → statement M
 icfl-batch-spec =
     tie.close
     (tie.spec Inv-loop μ-loop check-record-ends-requires enum-told enum-told-2 number-requires returns loop-holds mul-end shared-slice-read-end cast-end
-    sub-icfl part-icfl-start part-icfl-end mul-icfl sub-icfl-2 part-icfl-start-2 part-icfl-end-2 icfl-requires entries-used-requires add-used mul-places
-    array-set-from-places add-i loop-less loop-again same-length same-length-2 returns-2)
+    sub-icfl part-icfl-start part-icfl-end mul-icfl sub-icfl-2 part-icfl-start-2 part-icfl-end-2 icfl-requires entries-used-requires add-used mul-t28
+    element-set-from-answers add-i loop-less loop-again same-length same-length-2 returns-2)

@@ -1,0 +1,325 @@
+//! What request 105 says of a card, a batch of records, through every implementation.
+use metsroeb::{raw, Refusal, MOST_RECORDS};
+use metsroeb_tests::agree::{self, batch_answers};
+use metsroeb_tests::words::{all_words, Random, KINDS};
+use metsroeb_tests::{promise, Calls, PEER, VERIFIED};
+
+const BOTH: [&Calls; 2] = [&VERIFIED, &PEER];
+
+/// The records one after another, and where each ends.
+fn batch_of(records: &[&[u8]]) -> (Vec<u8>, Vec<u32>) {
+    let ends = records.iter().scan(0, |end, record| {
+        *end += record.len() as u32;
+        Some(*end)
+    });
+    (records.concat(), ends.collect())
+}
+
+/// Every implementation, with buffers of these sizes, does as promised.
+fn expect(bytes: &[u8], record_ends: &[u32], sizes: &[[usize; 2]], random: &mut Random) {
+    let answers = batch_answers(bytes, record_ends);
+    for calls in BOTH {
+        for &sizes in sizes {
+            agree::icfl_batch(calls, bytes, record_ends, &answers, sizes, random);
+        }
+    }
+}
+
+/// What every implementation answers, with buffers filled with 7, and leaves in these.
+#[allow(clippy::type_complexity)]
+fn cut(
+    bytes: &[u8],
+    record_ends: &[u32],
+    sizes: [usize; 2],
+    mut with: impl FnMut(Result<Vec<Result<Vec<u16>, u8>>, u8>, Vec<u16>, Vec<u16>),
+) {
+    for calls in BOTH {
+        let [mut work, mut ends] = sizes.map(|size| vec![7; size]);
+        let got = (calls.icfl_batch)(bytes, record_ends, &mut work, &mut ends).map_err(Refusal::number);
+        let got = got.map(|batch| batch.iter().map(|reply| reply.map(<[u16]>::to_vec).map_err(Refusal::number)).collect());
+        with(got, work, ends);
+    }
+}
+
+/// Paper 01's records A to K as one card, with just enough entries: "Ends are counted within their own record."
+#[test]
+fn records_a_to_k() {
+    let records: [(&[u8], &[u16]); 11] = [
+        (b"a", &[1]),
+        (b"aaa", &[3]),
+        (b"ab", &[1, 2]),
+        (b"ba", &[2]),
+        (b"abc", &[1, 2, 3]),
+        (b"baba", &[4]),
+        (b"bbabbabbb", &[6, 9]),
+        (b"cbabacbac", &[5, 9]),
+        (b"cbabacaacbabacbac", &[13, 17]),
+        (b"dabadabdabdadac", &[4, 10, 15]),
+        (b"dabdadacddbdc", &[3, 8, 13]),
+    ];
+    let (bytes, record_ends) = batch_of(&records.map(|(record, _)| record));
+    let packed = records.map(|(_, ends)| ends).concat();
+    cut(&bytes, &record_ends, [3 * 17 + 1, packed.len()], |got, work, ends| {
+        assert_eq!(got, Ok(records.map(|(_, ends)| Ok(ends.to_vec())).to_vec()));
+        assert_eq!((&work[..51], work[51], &ends), (&[0; 51][..], 7, &packed));
+    });
+}
+
+/// "A refused record uses none of it, and the next one is still tried": by 4, with a shorter one that fits behind it; by 3, 2 and 1.
+#[test]
+fn refused_records_among_others() {
+    let long = vec![b'a'; 4097];
+    let (bytes, record_ends) = batch_of(&[b"cbabacbac", b"abc", &long, b"", b"baba", b"cbabacaacbabacbac", b"ba", b"ab"]);
+    // with 50 work entries record I, of 17 bytes, gets 3; `abc` has three ends where two entries are left
+    let replies = [Ok(vec![5, 9]), Err(4), Err(2), Err(1), Ok(vec![4]), Err(3), Ok(vec![2]), Err(4)];
+    cut(&bytes, &record_ends, [50, 4], |got, work, ends| {
+        assert_eq!(got, Ok(replies.to_vec()));
+        assert_eq!((&work[..27], &work[27..], &ends[..]), (&[0; 27][..], &[7; 23][..], &[5, 9, 4, 2][..]));
+    });
+}
+
+/// The work buffer is 0 as far as the longest record needs that was accepted or refused by 4, wherever it stands, and no further.
+#[test]
+fn work_by_the_longest_record() {
+    let mut random = Random::new(0x5eed_0051);
+    for (records, ends_len, work_len, zeros) in [
+        (&[&b"ba"[..], b"cbabacbac", b"ba"][..], 4, 40, 27),
+        (&[b"cbabacbac", b"ba"], 3, 40, 27),
+        (&[b"ba", b"cbabacbac"], 3, 40, 27),
+        (&[b"ba", b"cbabacbac"], 1, 40, 27),        // refused by 4
+        (&[b"cbabacbac", b"ba"], 1, 40, 27),        // refused by 4
+        (&[b"ba", b"cbabacbac", b"bba"], 4, 26, 9), // refused by 3
+        (&[b"abc", b"", b"abc"], 0, 40, 9),
+        (&[b"", b""], 0, 40, 0),
+        (&[b"a", b"a", b"a", b"a", b"a"], 5, 40, 3),
+    ] {
+        let (bytes, record_ends) = batch_of(records);
+        cut(&bytes, &record_ends, [work_len, ends_len], |_, work, _| {
+            assert!(work[..zeros].iter().all(|&entry| entry == 0) && work[zeros..].iter().all(|&entry| entry == 7), "{work:?}");
+        });
+        expect(&bytes, &record_ends, &[[work_len, ends_len]], &mut random);
+    }
+}
+
+/// "64 places": 64 ends, 65 and more, also of empty records alone, and none.
+#[test]
+fn number_of_records() {
+    let mut random = Random::new(0x5eed_0052);
+    for count in [0, 1, 2, 63, 64, 65, 66, 128, 255, 256, 257, 320, 65_536, 65_537, 65_600] {
+        for length in [0, 1, 3] {
+            let bytes = b"cba".iter().cycle().take(length * count).copied().collect::<Vec<u8>>();
+            let record_ends: Vec<u32> = (1..=count).map(|k| (k * length) as u32).collect();
+            expect(&bytes, &record_ends, &[[9, count], [9, count / 2], [2, count]], &mut random);
+            cut(&bytes, &record_ends, [9, count], |got, work, ends| {
+                let untouched = work == vec![7; 9] && ends == vec![7; count];
+                match got {
+                    Ok(replies) => assert!((1..=64).contains(&count) && replies.len() == count),
+                    Err(number) => assert!(number == 10 && untouched && !(1..=64).contains(&count)),
+                }
+            });
+        }
+    }
+}
+
+/// Every list of up to five ends about the number of the bytes, with far ones whose lower 8 or 16 bits are near ones.
+#[test]
+fn short_lists() {
+    let mut random = Random::new(0x5eed_0053);
+    let mut accepted = 0;
+    for length in 0..=3u32 {
+        let bytes = &b"cab"[..length as usize];
+        let mut ends: Vec<u32> = (0..=length + 1).collect();
+        ends.extend([256 + length, 65_535, 65_536, 65_536 + length, u32::MAX]);
+        for list in (0..=4).flat_map(|count| all_words(ends.len(), count)) {
+            let list: Vec<u32> = list.iter().map(|&letter| ends[(letter - b'a') as usize]).collect();
+            let sizes = [random.below(10), random.below(4)];
+            let proper = !list.is_empty() && list.is_sorted() && *list.last().unwrap() == length;
+            let answers = batch_answers(bytes, &list);
+            let promised = promise::icfl_batch(bytes.len(), &list, &answers, &mut [7; 9], &mut [7; 3]);
+            assert_eq!(promised.is_ok(), proper);
+            accepted += u32::from(proper);
+            expect(bytes, &list, &[sizes], &mut random);
+        }
+    }
+    assert_eq!(accepted, 4 + (1 + 2 + 3 + 4) + (1 + 3 + 6 + 10) + (1 + 4 + 10 + 20));
+}
+
+/// "or a first end of 0": also the card of no bytes and one end.
+#[test]
+fn empty_records() {
+    cut(b"", &[0], [3, 3], |got, work, ends| {
+        assert_eq!((got, work, ends), (Ok(vec![Err(1)]), vec![7; 3], vec![7; 3]));
+    });
+    cut(b"ab", &[0, 0, 2, 2], [6, 3], |got, work, ends| {
+        assert_eq!(got, Ok(vec![Err(1), Err(1), Ok(vec![1, 2]), Err(1)]));
+        assert_eq!((work, ends), (vec![0; 6], vec![1, 2, 7]));
+    });
+    cut(b"ab", &[0], [6, 3], |got, work, ends| assert_eq!((got, work, ends), (Err(10), vec![7; 6], vec![7; 3])));
+}
+
+/// A fault at any place of a long list leaves everything, also the records before it, as it was.
+#[test]
+fn one_fault_in_a_long_list() {
+    let mut random = Random::new(0x5eed_0054);
+    let (bytes, proper) = batch_of(&[&b"cbabacbac"[..]; 64]);
+    for place in 0..64 {
+        for end in [0, 1, proper[place] - 1, proper[place] + 1, proper[place] + 9, proper[place] + 10, 576, 577, u32::MAX] {
+            let mut record_ends = proper.clone();
+            record_ends[place] = end;
+            expect(&bytes, &record_ends, &[[60, 576], [9, 5]], &mut random);
+        }
+    }
+    for last in [575, 577, 0, 576 - 256, 576 + 65_536, u32::MAX] {
+        let mut record_ends = proper.clone();
+        record_ends[63] = last;
+        cut(&bytes, &record_ends, [27, 128], |got, work, ends| {
+            assert_eq!((got, work, ends), (Err(10), vec![7; 27], vec![7; 128]));
+        });
+    }
+}
+
+/// A card of one record: what the single call gives with the same buffers.
+#[test]
+fn one_record_is_the_single_call() {
+    let mut random = Random::new(0x5eed_0055);
+    for word in (0..=6).flat_map(|length| all_words(3, length)).chain([vec![b'a'; 4096], vec![b'a'; 4097], vec![b'a'; 65_537]]) {
+        let n = word.len();
+        for [work_len, ends_len] in [[3 * n, n], [(3 * n).saturating_sub(1), n], [3 * n + 2, 1], [3 * n, 0], [3 * n, n / 2]] {
+            cut(&word, &[n as u32], [work_len, ends_len], |got, work, ends| {
+                let (mut single_work, mut single_ends) = (vec![7; work_len], vec![7; ends_len]);
+                let single = (VERIFIED.icfl)(&word, &mut single_work, &mut single_ends);
+                assert_eq!(got, Ok(vec![single.map(<[u16]>::to_vec).map_err(Refusal::number)]));
+                assert_eq!((work, ends), (single_work, single_ends));
+            });
+        }
+    }
+    expect(b"cbabacbac", &[9], &[[27, 2], [27, 1], [26, 2], [30, 9]], &mut random);
+}
+
+/// Long records among short ones; bytes, ends and used entries past 16 bits; records whose lengths are 0 to 16 bits.
+#[test]
+fn long_records() {
+    let mut random = Random::new(0x5eed_0056);
+    let over = |letters: usize, length: usize, random: &mut Random| (0..length).map(|_| random.below(letters) as u8).collect();
+    for length in [4095, 4096, 4097, 65_535, 65_536, 65_537, 65_600, 70_000] {
+        let long: Vec<u8> = over(3, length, &mut random);
+        let marks = vec![255; length.min(4096)];
+        let (bytes, record_ends) = batch_of(&[b"ba", &long, b"cbabacbac", b"", &marks, &long, b"ab"]);
+        expect(&bytes, &record_ends, &[[3 * 4096 + 3, bytes.len()], [3 * 4096 - 1, bytes.len()], [27, 4]], &mut random);
+    }
+    let marks = [255; 4096];
+    let mut records = vec![&marks[..]; 17];
+    records.insert(16, b"ab");
+    records.push(b"cbabacbac");
+    let (bytes, record_ends) = batch_of(&records);
+    let all = 17 * 4096 + 4;
+    expect(&bytes, &record_ends, &[[12_288, all], [12_288, all - 1], [12_300, bytes.len()], [12_287, bytes.len()]], &mut random);
+    let full: Vec<Vec<u8>> = (0..64).map(|_| over(2, 4096, &mut random)).collect();
+    let (bytes, record_ends) = batch_of(&full.iter().map(Vec::as_slice).collect::<Vec<_>>());
+    expect(&bytes, &record_ends, &[[12_288, bytes.len()], [12_290, 20_000]], &mut random);
+}
+
+/// Records of all kinds, some empty; tight buffers; some lists with a fault. As many entries as bytes are always enough.
+fn random_batches(rounds: usize, most_records: usize, most_bytes: usize, seed: u64) -> [usize; 11] {
+    let mut random = Random::new(seed);
+    let mut seen = [0; 11];
+    for _ in 0..rounds {
+        let count = 1 + random.below(most_records);
+        let words: Vec<Vec<u8>> = (0..count)
+            .map(|_| match random.below(10) {
+                0 => vec![],
+                _ => {
+                    let (_, make) = KINDS[random.below(KINDS.len())];
+                    let length = 1 + random.below(most_bytes);
+                    make(&mut random, length)
+                }
+            })
+            .collect();
+        let (bytes, mut record_ends) = batch_of(&words.iter().map(Vec::as_slice).collect::<Vec<_>>());
+        if random.below(6) == 0 {
+            let place = random.below(count);
+            let by = [1, 2, 256, 65_536, 1 << 24][random.below(5)];
+            let end = record_ends[place];
+            record_ends[place] = if random.below(2) == 0 { end.wrapping_add(by) } else { end.wrapping_sub(by) };
+        }
+        let answers = batch_answers(&bytes, &record_ends);
+        let needed: usize = answers.iter().map(Vec::len).sum();
+        let some = words[random.below(count)].len();
+        let longest = words.iter().map(Vec::len).max().unwrap();
+        let work_len = [3 * longest, 3 * longest + random.below(9), 3 * some, (3 * some).saturating_sub(1)][random.below(4)];
+        let ends_len = [bytes.len(), needed, needed.saturating_sub(1), random.below(needed + 1), needed / 2][random.below(5)];
+        for calls in BOTH {
+            agree::icfl_batch(calls, &bytes, &record_ends, &answers, [work_len, ends_len], &mut random);
+        }
+        let [mut work, mut ends] = [vec![0; work_len], vec![0; ends_len]];
+        match promise::icfl_batch(bytes.len(), &record_ends, &answers, &mut work, &mut ends) {
+            Err(number) => seen[number as usize] += 1,
+            Ok(replies) => {
+                let refused = |reply: &Result<_, u8>| reply.err().unwrap_or(0);
+                replies.iter().for_each(|reply| seen[refused(reply) as usize] += 1);
+                assert!(ends_len < bytes.len() || replies.iter().all(|reply| refused(reply) != 4));
+                // a record behind one that was refused by 4 fits: counted in place 9
+                let behind = replies.iter().skip_while(|reply| refused(reply) != 4).any(|reply| refused(reply) == 0);
+                seen[9] += usize::from(behind);
+            }
+        }
+    }
+    seen
+}
+
+#[test]
+fn random_short_records() {
+    let seen = random_batches(20_000, 8, 12, 0x5eed_0057);
+    assert!([0, 1, 3, 4, 9, 10].iter().all(|&k| seen[k] > 1000), "{seen:?}");
+}
+
+#[test]
+fn random_records_to_100() {
+    let seen = random_batches(1_500, 64, 100, 0x5eed_0058);
+    assert!([0, 1, 3, 4, 9, 10].iter().all(|&k| seen[k] > 100), "{seen:?}");
+}
+
+#[test]
+fn random_long_records() {
+    let seen = random_batches(250, 64, 4096, 0x5eed_0059);
+    assert!([0, 1, 3, 4, 9, 10].iter().all(|&k| seen[k] > 10), "{seen:?}");
+}
+
+/// The struct that the exported function returns: a result of 0 in the places past the last record, and in all of them beside 10.
+#[test]
+fn every_place_of_the_answer() {
+    let mut random = Random::new(0x5eed_005a);
+    for count in (0..=66).chain([128, 65_537]) {
+        for broken in [false, true] {
+            let bytes = b"cbabacbac".repeat(count);
+            let mut record_ends: Vec<u32> = (1..=count).map(|k| 9 * k as u32).collect();
+            if broken && count > 0 {
+                record_ends[random.below(count)] += 10;
+            }
+            let [mut work, mut ends] = [vec![7u16; 27], vec![7u16; count]];
+            let got = unsafe {
+                raw::metsroeb_icfl_batch(
+                    bytes.as_ptr(),
+                    bytes.len(),
+                    record_ends.as_ptr(),
+                    count,
+                    work.as_mut_ptr(),
+                    work.len(),
+                    ends.as_mut_ptr(),
+                    ends.len(),
+                )
+            };
+            let proper = (1..=64).contains(&count) && !broken;
+            assert_eq!(got.refusal, if proper { 0 } else { 10 });
+            for (k, raw::Reply { refusal, count: factors }) in got.replies.into_iter().enumerate() {
+                let want = match proper && k < count {
+                    true if 2 * k + 2 <= count => (0, 2),
+                    true => (4, 0),
+                    false => (0, 0),
+                };
+                assert_eq!((refusal, factors), want, "place {k} of {count} records");
+            }
+        }
+    }
+    assert_eq!((MOST_RECORDS, size_of::<raw::Batch>()), (64, 258));
+}
