@@ -121,7 +121,7 @@ fn number_of_records() {
     }
 }
 
-/// Every list of up to five ends about the number of the bytes, with far ones whose lower 8 or 16 bits are near ones.
+/// Every list of up to four ends about the number of the bytes, with far ones whose lower 8 or 16 bits are near ones.
 #[test]
 fn short_lists() {
     let mut random = Random::new(0x5eed_0053);

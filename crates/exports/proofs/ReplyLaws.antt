@@ -23,7 +23,7 @@ use Rattle.batch.specs.Batch.{icflAnswer, recordsFrom, uncut, batchOf, place, p
 use Rattle.batch.proofs.FoldLaws.{batch-answers, batch-count, Every, every-added}
 use Rattle.exports.specs.declared.Reply.{Reply}
 use Rattle.exports.specs.declared.Replies.{Replies}
-use Rattle.exports.specs.Exports.{Small, replyOf, EachSmall, repliesOf, BatchNumbers}
+use Rattle.exports.specs.Exports.{Small, replyOf, repliesOf, BatchNumbers}
 use Rattle.exports.proofs.NumberLaws.{icfl-small}
 
 -- ---- the loop
@@ -94,6 +94,10 @@ placed-past answers i p q =
     rw z at (blank-past (map place answers) (mostRecords - length answers) i (omega (arith, n)) (omega (arith, n)))
 
 -- ---- the batch
+
+-- each count fits into sixteen bits
+abbrev EachSmall : List Place → Type 0
+EachSmall places = (i : ℕ) → Small (getD places i (place (Counted.Count 0)) .answer)
 
 blanks-small : (n : ℕ) → EachSmall (replicate n (place (Counted.Count 0)))
 blanks-small zero i = omega arith

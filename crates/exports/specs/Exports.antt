@@ -17,7 +17,7 @@ use Rattle.extension.specs.Extension.{extensionLines}
 use Rattle.fates.specs.Entries.{entriesOf}
 use Rattle.icfl.specs.Icfl.{icflLines, workAfter}
 use Rattle.icfl.specs.IcflBreaks.{breaksLines}
-use Rattle.batch.specs.Batch.{place, placesOf, batchOf, batchLines}
+use Rattle.batch.specs.Batch.{placesOf, batchOf, batchLines}
 use Rattle.batch.specs.declared.Place.{Place}
 use Rattle.cfl.specs.CflIn.{cflInLines}
 use Rattle.table.specs.Table.{tableLines}
@@ -89,13 +89,9 @@ pub record FactorNumbers (w es : List ℕ) (k r first end : ℕ) : Type 0 where
   pub first-is : first ≡ factorFrom es k unless factorLines w es k then (λ number. 0)
   pub end-is : end ≡ getD es k 0 unless factorLines w es k then (λ number. 0)
 
--- ---- inner functions
+-- ---- inner function
 
 -- a count that fits into sixteen bits
 abbrev pub Small : Counted → Type 0
 Small (Counted.Count n) = n < 65536
 Small (Counted.Refused e) = Unit {0}
-
--- of each place
-abbrev pub EachSmall : List Place → Type 0
-EachSmall places = (i : ℕ) → Small (getD places i (place (Counted.Count 0)) .answer)

@@ -1,5 +1,5 @@
-//! The calls for C and Rust: include/metsroeb.h has their signatures. Each returns the refusal's number, 0 for a result; results go to
-//! numbers that the caller lends, 0 beside a refusal.
+//! The calls for C and Rust: include/metsroeb.h has their signatures. Each returns the refusal's number, 0 for a result, or a struct that
+//! holds it; results go to that struct or to numbers that the caller lends, 0 beside a refusal.
 use batch::MOST_RECORDS;
 use checks::Checked;
 use checks::Counted;
@@ -130,6 +130,7 @@ pub extern "C" fn metsroeb_icfl_batch(
         count: 0,
     }; MOST_RECORDS];
     let mut i: usize = 0;
+    // Past the last record both hold 0.
     while (i < MOST_RECORDS) & (i < record_ends.len()) {
         let place = answers.places[i];
         let answer = place.answer;
