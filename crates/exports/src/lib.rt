@@ -124,11 +124,11 @@ pub extern "C" fn metsroeb_icfl_batch(
 ) -> Replies
     ensures { λ r. ⌜ BatchNumbers (now (bytes .entry)) (now («record_ends» .entry)) (now (work .entry)) (now (ends .entry)) r (now (work .exit)) (now (ends .exit)) ⌝ }
 {
-    let answers = batch::icfl_batch(bytes, record_ends, work, ends);
     let mut replies = [Reply {
         refusal: 0,
         count: 0,
     }; MOST_RECORDS];
+    let answers = batch::icfl_batch(bytes, record_ends, work, ends);
     let mut i: usize = 0;
     // Past the last record both hold 0.
     while (i < MOST_RECORDS) & (i < record_ends.len()) {
