@@ -1,2 +1,3 @@
-pub mod FourLaws
+pub mod ZeroLaws
+pub mod EightLaws
 pub mod OrderLaws

@@ -1,8 +1,8 @@
--- The sign of two words where they part, by the letters there (letters-ordered) or by the lengths (prefix-ordered). As eight bits it is read back as it was
+-- Two words where they part: the sign by the letters there (letters-ordered), or sign and number by the lengths (prefix-ordered). As eight bits it is read back as it was
 -- (sign-read), and the test `sign < 0` tells whether x comes before y (sign-decides).
 use mathlib.Core.Path.{_≡_, refl}
 use mathlib.Core.List.{List}
-use Prim.Native.Nat.{ℕ, _≤_, _<_, min}
+use Prim.Native.Nat.{ℕ, _≤_, min}
 use native.Mathlib.Omega.{arith}
 use lib.ListN.{length, getD}
 use lib.IntN.{ℤ, pos}
@@ -12,21 +12,31 @@ use mir.Val.{toZ, ofZ}
 use Rattle.words.specs.Words.{_≺_, mismatch}
 use Rattle.words.specs.orders.Decisions.{Decides, holds, fails}
 use Rattle.words.specs.orders.InverseLaws.{≺-≼, ≺-irrefl, ≺-not-≼}
-use Rattle.words.specs.orders.CommonLength.{Agree, agree-sym, agree-same, agree-shorter, agree-≪, agree-≪-sym}
+use Rattle.words.specs.orders.CommonLength.{Matched, Agree, agree-unique, agree-sym, agree-same, agree-shorter, agree-≪, agree-≪-sym}
 use Rattle.words.specs.orders.WordSigns.{SignOfWords, before, same, after}
-use Rattle.common.specs.Steps.{LetterSign, PrefixSign}
+use Rattle.common.specs.declared.order.Order.{Order}
+use Rattle.common.specs.Steps.{LetterSign, PrefixSign, PrefixOrdered, PartedAt, Ordered}
 
-module _ {x y : List ℕ} {l : ℕ} (g : Agree x y l) where
-  -- both go on, with letters that differ
-  pub letters-ordered : {s : ℤ} → l < length x → l < length y → LetterSign (getD x l 0) (getD y l 0) s → SignOfWords x y s
-  letters-ordered p q (LetterSign.before h) = before (mismatch (agree-≪-sym g p q h))
-  letters-ordered p q (LetterSign.after h) = after (mismatch (agree-≪ g p q h))
+-- both go on, with letters that differ
+pub letters-ordered : {x y : List ℕ} {l : ℕ} {s : ℤ} → PartedAt x y l → LetterSign (getD x l 0) (getD y l 0) s → SignOfWords x y s
+letters-ordered p (LetterSign.before h) = before (mismatch (agree-≪-sym (p .agree) (p .left) (p .right) h))
+letters-ordered p (LetterSign.after h) = after (mismatch (agree-≪ (p .agree) (p .left) (p .right) h))
 
-  -- one is a prefix of the other
-  pub prefix-ordered : {s : ℤ} → min (length x) (length y) ≤ l → PrefixSign (length x) (length y) s → SignOfWords x y s
-  prefix-ordered m (PrefixSign.before h) = before (agree-shorter g (omega arith) h)
-  prefix-ordered m (PrefixSign.same e) = same (agree-same g (omega arith) (omega arith))
-  prefix-ordered m (PrefixSign.after h) = after (agree-shorter (agree-sym g) (omega arith) h)
+-- the letters are equal to the end of one of them
+module _ {x y : List ℕ} {l : ℕ} (g : Matched x y l) (m : min (length x) (length y) ≤ l) where
+  ended : Agree x y l
+  ended = record { matched = g; differ = λ h k. absurd (omega arith) }
+
+  prefix-sign : {s : ℤ} → PrefixSign (length x) (length y) s → SignOfWords x y s
+  prefix-sign (PrefixSign.before h) = before (agree-shorter ended (omega arith) h)
+  prefix-sign (PrefixSign.same e) = same (agree-same ended (omega arith) (omega arith))
+  prefix-sign (PrefixSign.after h) = after (agree-shorter (agree-sym ended) (omega arith) h)
+
+  pub prefix-ordered : {r : Order} → PrefixOrdered (length x) (length y) r → Ordered x y r
+  prefix-ordered o = record {
+    sign-is = prefix-sign (o .sign-is);
+    common-is = omega (arith, o .common-is, agree-unique x y l ended, g .left, g .right);
+  }
 
 -- ---- as eight bits
 

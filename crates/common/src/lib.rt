@@ -1,5 +1,5 @@
 //! Two words compared: which comes first in the inverse order, and how far they agree.
-mod fours; // skip_fours: equal leading letters, four in a step
+mod eights; // eight_at, equal_bytes: eight letters as one number, and how many of them two numbers have in common
 mod order; // compare_words: the sign and the number of equal leading letters; common_length: the number alone
 
 pub use order::Order;

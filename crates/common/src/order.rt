@@ -1,15 +1,24 @@
 //! Two words in the inverse order, and how far they agree.
-use super::fours::shorter;
-use super::fours::skip_fours;
+use super::eights::eight_at;
+use super::eights::equal_bytes;
 ghost use mathlib.Core.Path.{_≡_};
+ghost use Prim.Native.Nat.{min};
 ghost use Rattle.words.specs.Words.{commonLength};
-ghost use Rattle.common.specs.Steps.{LetterSign, PrefixOrdered, Ordered};
+ghost use Rattle.words.specs.orders.CommonLength.{Matched};
+ghost use Rattle.common.specs.Steps.{LetterSign, PrefixOrdered, PartedAt, Ordered};
 
 /// Two words x and y compared: −1 if x comes before y in the inverse order, 0 if they are the same, +1 otherwise; and the number of
 /// equal leading letters.
 pub struct Order {
     pub sign: i8,
     pub common: usize,
+}
+
+// The smaller of two lengths.
+fn shorter(m: usize, n: usize) -> usize
+    ensures { λ r. ⌜ r ≡ min m n ⌝ }
+{
+    if m < n { m } else { n }
 }
 
 // The sign of two words that part at the letters a and b: the one with the larger letter comes first.
@@ -35,24 +44,49 @@ fn prefix_order(m: usize, n: usize) -> Order
     Order { sign: 0, common: n }
 }
 
-/// Compares two words. The sign is read off at the first difference, where the count ends.
+// Two words that part at l.
+fn parted_at(x: &[u8], y: &[u8], l: usize) -> Order
+    requires { ⌜ PartedAt (now x) (now y) l ⌝ }
+    ensures { λ r. ⌜ Ordered (now (x .entry)) (now (y .entry)) r ⌝ }
+{
+    Order {
+        sign: letter_sign(x[l], y[l]),
+        common: l,
+    }
+}
+
+// Compares two words with l equal leading letters, letter by letter from there.
+fn compare_from(x: &[u8], y: &[u8], l: usize) -> Order
+    requires { ⌜ Matched (now x) (now y) l ⌝ }
+    ensures { λ r. ⌜ Ordered (now (x .entry)) (now (y .entry)) r ⌝ }
+{
+    let most = shorter(x.len(), y.len());
+    let mut k = l;
+    while k < most {
+        if x[k] != y[k] {
+            return parted_at(x, y, k);
+        }
+        k += 1;
+    }
+    prefix_order(x.len(), y.len())
+}
+
+/// Compares two words: eight letters in a step where both have eight more, then one by one. The sign is read off at the first difference.
 pub fn compare_words(x: &[u8], y: &[u8]) -> Order
     ensures { λ r. ⌜ Ordered (now (x .entry)) (now (y .entry)) r ⌝ }
 {
     let most = shorter(x.len(), y.len());
-    let mut l = skip_fours(x, y);
-    while l < most {
-        let a = x[l];
-        let b = y[l];
-        if a != b {
-            return Order {
-                sign: letter_sign(a, b),
-                common: l,
-            };
+    let whole = most - most % 8;
+    let mut l: usize = 0;
+    while l < whole {
+        let v = eight_at(x, l);
+        let w = eight_at(y, l);
+        if v != w {
+            return parted_at(x, y, l + equal_bytes(v, w) as usize);
         }
-        l += 1;
+        l += 8;
     }
-    prefix_order(x.len(), y.len())
+    compare_from(x, y, l)
 }
 
 /// The number of equal leading letters of x and y.

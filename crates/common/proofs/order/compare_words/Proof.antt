@@ -1,90 +1,100 @@
--- The letters read so far are equal; it returns where one word ends or the two differ, and the sign is read off there.
+-- The letters read so far are equal, and their number is a multiple of eight; so eight more are there while the loop goes on.
 use borrow.Author.Needs.{needs}
-use mathlib.Core.Path.{_≡_, sym, _∙_}
-use Prim.Native.Nat.{_-_}
+use mathlib.Core.Path.{_≡_}
+use Prim.Native.Nat.{_+_, _-_, _%_, _≤_}
 use native.Mathlib.Omega.{arith}
-use mir.Syntax.{w8}
-use mir.Facts.{toZ-ofZ}
-use Rattle.words.specs.orders.CommonLength.{Agree, Matched, matched-more, agree-unique}
-use Rattle.common.proofs.OrderLaws.{letters-ordered, prefix-ordered}
+use lib.ListN.{length}
+use Rattle.words.specs.orders.CommonLength.{Matched, matched-none}
+use Rattle.common.specs.Steps.{PartedAt}
+use Rattle.common.proofs.EightLaws.{equal-numbers, numbers-part}
 use Rattle.common.proofs.order.compare_words.Statement.{statement}
 use Rattle.common.proofs.order.compare_words.Tie as tie
 
 abbrev Inv-loop : tie.InvT-loop
-Inv-loop x y most l₀ l = Matched x y l
+Inv-loop x y most whole l₀ l = Matched x y l × (l % 8 ≡ 0)
 
 abbrev μ-loop : tie.MeasureT-loop
-μ-loop x y most l₀ l = most - l
-
--- the letters there differ
-parts-at : (c : tie.Then1 Inv-loop μ-loop) → let a = c .before .before .before .before .before .before .before .before .before .args in
-    Agree (a .x .now) (a .y .now) (c .before .before .before .before .loop .l)
-parts-at c = record { matched = c .before .before .before .before .loop .inv; differ = λ h k. c .if1 .taken }
+μ-loop x y most whole l₀ l = whole - l
 
 shorter-requires : tie.Need-shorter-requires Inv-loop μ-loop
 shorter-requires c κs = search needs
 
-skip-fours-requires : tie.Need-skip-fours-requires Inv-loop μ-loop
-skip-fours-requires c κs = search needs
+sub-whole : tie.Need-sub-whole Inv-loop μ-loop
+sub-whole c = search needs
 
 loop-holds : tie.Need-loop-holds Inv-loop μ-loop
-loop-holds c = c .skip-fours .ensures
+loop-holds c = (matched-none _ _, omega arith)
 
-shared-slice-read-a : tie.Need-shared-slice-read-a Inv-loop μ-loop
-shared-slice-read-a c = omega (arith, c .before .before .before .before .shorter .ensures)
+-- eight more letters of both words
+eights : (c : tie.In-loop Inv-loop μ-loop) → let start = c .before .before .before .before .before in
+    (c .before .loop .l + 8 ≤ length (start .args .x .now)) × (c .before .loop .l + 8 ≤ length (start .args .y .now))
+eights c =
+    let least = c .before .before .shorter .ensures in
+    let n = c .before .loop .inv .1 in
+    (omega (arith, least, n, c .loop-test .taken), omega (arith, least, n, c .loop-test .taken))
 
-shared-slice-read-b : tie.Need-shared-slice-read-b Inv-loop μ-loop
-shared-slice-read-b c = omega (arith, c .before .before .before .before .before .shorter .ensures)
+eight-at-requires : tie.Need-eight-at-requires Inv-loop μ-loop
+eight-at-requires c κs = eights c .0
 
-letter-sign-requires : tie.Need-letter-sign-requires Inv-loop μ-loop
-letter-sign-requires c κs = search needs
+eight-at-requires-2 : tie.Need-eight-at-requires-2 Inv-loop μ-loop
+eight-at-requires-2 c κs = eights (c .before) .1
+
+equal-bytes-requires : tie.Need-equal-bytes-requires Inv-loop μ-loop
+equal-bytes-requires c κs = search needs
+
+-- the numbers differ, so the words part where the equal bytes end
+parts : (c : tie.After-equal-bytes Inv-loop μ-loop) → let start = c .before .before .before .before .before .before .before .before .before in
+    PartedAt (start .args .x .now) (start .args .y .now) (c .before .before .before .before .before .loop .l + c .equal-bytes .result)
+parts c =
+    let first = c .before .before .before in
+    let turn = first .before in
+    let known = turn .before .before .before in
+    rw (c .equal-bytes .ensures, first .eight-at .ensures, c .before .before .eight-at2 .ensures)
+    (numbers-part _ _ _ 8 (eights turn .0) (eights turn .1) (λ t. known .before .shared-slice-known .given t .fits) (λ t. known .shared-slice-known2 .given t .fits)
+    (turn .before .loop .inv .0) (rw (first .eight-at .ensures, c .before .before .eight-at2 .ensures) at (c .before .if1 .taken)))
+
+cast-parted-at : tie.Need-cast-parted-at Inv-loop μ-loop
+cast-parted-at c = record { fits = omega (arith, c .equal-bytes .ok) }
+
+add-parted-at : tie.Need-add-parted-at Inv-loop μ-loop
+add-parted-at c =
+    let least = c .before .before .before .before .before .before in
+    record { fits = omega (arith, parts c .left, parts c .right, least .shorter .ensures, least .shorter .ok) }
+
+parted-at-requires : tie.Need-parted-at-requires Inv-loop μ-loop
+parted-at-requires c κs = parts c
 
 returns : tie.Need-returns Inv-loop μ-loop
-returns c =
-    let turn = c .before .before .before .before in
-    let least = turn .before .before .before .shorter .ensures in
-    record {
-      sign-is = rw (toZ-ofZ {w = w8} (record { sfits = c .letter-sign .ok }))
-          (letters-ordered (parts-at (c .before)) (omega (arith, turn .loop-test .taken)) (omega (arith, turn .loop-test .taken)) (c .letter-sign .ensures));
-      common-is = agree-unique _ _ _ (parts-at (c .before));
-    }
+returns c = c .parted-at .ensures
 
 add-l : tie.Need-add-l Inv-loop μ-loop
-add-l c = search needs
+add-l c =
+    let turn = c .before .before .before in
+    let least = turn .before .before in
+    record { fits = omega (arith, eights turn .0, eights turn .1, least .shorter .ensures, least .shorter .ok) }
 
 loop-less : tie.Need-loop-less Inv-loop μ-loop
 loop-less c = search needs
 
 loop-again : tie.Need-loop-again Inv-loop μ-loop
 loop-again c =
-    let turn = c .before .before .before in
-    let least = turn .before .before .before .shorter .ensures in
-    matched-more _ _ _ (turn .before .loop .inv) (omega (arith, turn .loop-test .taken)) (omega (arith, turn .loop-test .taken)) (omega arith)
+    let first = c .before .before in
+    let turn = first .before in
+    let known = turn .before .before .before in
+    let same = c .if1 .left in (
+      equal-numbers _ _ _ 8 (eights turn .0) (eights turn .1) (λ t. known .before .shared-slice-known .given t .fits)
+          (λ t. known .shared-slice-known2 .given t .fits) (turn .before .loop .inv .0) (rw (first .eight-at .ensures, c .before .eight-at2 .ensures) at same),
+      omega (arith, turn .before .loop .inv .1),
+    )
 
-prefix-order-requires : tie.Need-prefix-order-requires Inv-loop μ-loop
-prefix-order-requires c κs = search needs
-
--- one word has ended
-ended-at : (c : tie.After-loop Inv-loop μ-loop) → let a = c .before .before .before .before .before .before .args in
-    Agree (a .x .now) (a .y .now) (c .before .before .before .shorter .result)
-ended-at c =
-    let inv = c .before .loop .inv in
-    let least = c .before .before .before .shorter in
-    let whole : c .before .loop .l ≡ least .result = omega (arith, least .ensures, inv .left, inv .right, c .loop-test .left) in
-    let agree : Agree _ _ (c .before .loop .l) = record { matched = inv; differ = λ h k. absurd (omega (arith, least .ensures)) } in
-    rw whole at agree
+compare-from-requires : tie.Need-compare-from-requires Inv-loop μ-loop
+compare-from-requires c κs = c .before .loop .inv .0
 
 returns-2 : tie.Need-returns-2 Inv-loop μ-loop
-returns-2 c =
-    let least = c .before .before .before .before .shorter .ensures in
-    let order = c .prefix-order .ensures in
-    record {
-      sign-is = prefix-ordered (ended-at (c .before)) (omega (arith, least)) (order .sign-is);
-      common-is = order .common-is ∙ (sym least ∙ agree-unique _ _ _ (ended-at (c .before)));
-    }
+returns-2 c = c .compare-from .ensures
 
 pub compare-words-spec : {M : Type 1} → statement M
 compare-words-spec =
     tie.close
-    (tie.spec Inv-loop μ-loop shorter-requires skip-fours-requires loop-holds shared-slice-read-a shared-slice-read-b letter-sign-requires returns
-    add-l loop-less loop-again prefix-order-requires returns-2)
+    (tie.spec Inv-loop μ-loop shorter-requires sub-whole loop-holds eight-at-requires eight-at-requires-2 equal-bytes-requires cast-parted-at
+    add-parted-at parted-at-requires returns add-l loop-less loop-again compare-from-requires returns-2)

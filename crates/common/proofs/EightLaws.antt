@@ -1,0 +1,128 @@
+-- Letters as a number. Its bytes are the letters (bytes-of-letters), and a longer number is made of two shorter ones (little-halves). Of two words that
+-- agree up to a place, the numbers of the next n letters tell that these are equal (equal-numbers) or where the words part (numbers-part).
+use mathlib.Core.Path.{_≡_, refl, ap, sym, _∙_}
+use mathlib.Core.List.{List, [], _∷_}
+use Prim.Native.Nat.{ℕ, zero, suc, _+_, _-_, _*_, _/_, _%_, _^_, _≤_, _<_}
+use native.Mathlib.Nat.{add-zero, mul-assoc, mul-left-comm}
+use native.Mathlib.Omega.{arith}
+use native.Mathlib.Decide.{decLt}
+use lib.ListN.{length, getD, take, length-take, List·getD-eq-default}
+use lib.Seq.{slice, slice-empty, slice-cons, length-slice, getD-take, getD-drop}
+use lib.Pow.{pow-add}
+use Rattle.words.specs.Words.{commonLength}
+use Rattle.words.specs.orders.CommonLength.{Matched, Agree, agree-same, common-agree}
+use Rattle.common.specs.Eights.{littleEndian, bytesOf}
+use Rattle.common.specs.Steps.{PartedAt}
+
+-- every letter is a byte
+abbrev pub Bytes : List ℕ → Type 0
+Bytes x = (t : ℕ) → getD x t 0 < 256
+
+bytes-of-letters : (x : List ℕ) → Bytes x → bytesOf (length x) (littleEndian x) ≡ x
+unfolding bytesOf littleEndian
+bytes-of-letters [] b = refl
+bytes-of-letters (a ∷ x) b =
+    let low : (a + 256 * littleEndian x) % 256 ≡ a = omega (arith, b 0) in
+    let high : (a + 256 * littleEndian x) / 256 ≡ littleEndian x = omega (arith, b 0) in
+    rw (low, high) (ap (λ (y : List ℕ). a ∷ y) (bytes-of-letters x (λ t. b (suc t))))
+
+-- ---- letters of a longer word
+
+bytes-slice : (f e : ℕ) (x : List ℕ) → Bytes x → Bytes (slice f e x)
+bytes-slice f e x b t = rw (getD-drop f (take e x) t 0) (go (decLt (f + t) e))
+  where
+    go : Dec (f + t < e) → getD (take e x) (f + t) 0 < 256
+    go (yes h) = rw (getD-take e x (f + t) 0 h) (b (f + t))
+    go (no h) = rw (List·getD-eq-default (take e x) 0 {n = f + t} (rw (length-take e x) (omega arith))) (omega arith)
+
+little-none : (x : List ℕ) (e : ℕ) → littleEndian (slice e e x) ≡ 0
+unfolding littleEndian
+little-none x e = rw (slice-empty e x)
+
+-- the letter before them comes to the number as its lowest byte
+little-more : (x : List ℕ) (f e : ℕ) → f < e → e ≤ length x → littleEndian (slice f e x) ≡ getD x f 0 + 256 * littleEndian (slice (suc f) e x)
+unfolding littleEndian
+little-more x f e h k = rw (slice-cons f e x 0 h k)
+
+pub little-two : (x : List ℕ) (l : ℕ) → l + 2 ≤ length x → littleEndian (slice l (l + 2) x) ≡ getD x l 0 + 256 * getD x (l + 1) 0
+little-two x l h =
+    let e : l + 2 ≡ suc (suc l) = omega arith in
+    let f : l + 1 ≡ suc l = omega arith in
+    rw (e, f)
+    (omega (
+      arith,
+      little-more x l (suc (suc l)) (omega arith) (omega arith),
+      little-more x (suc l) (suc (suc l)) (omega arith) (omega arith),
+      little-none x (suc (suc l)),
+    ))
+
+-- a number is made of its m low bytes and of the n above them
+above-low : (x : List ℕ) (l m e : ℕ) → l + m ≤ e → e ≤ length x
+    → littleEndian (slice l (l + m) x) + 2 ^ (8 * m) * littleEndian (slice (l + m) e x) ≡ littleEndian (slice l e x)
+above-low x l zero e h k = rw (add-zero l, little-none x l) (omega arith)
+above-low x l (suc m) e h k =
+    let on : suc l + m ≡ l + suc m = omega arith in
+    let rest = above-low x (suc l) m e (omega arith) k in
+    let p : 8 * suc m ≡ 8 * m + 8 = omega arith in
+    let above = littleEndian (slice (l + suc m) e x) in
+    let shifted : 2 ^ (8 * suc m) * above ≡ 256 * (2 ^ (8 * m) * above) = rw (p, pow-add 2 (8 * m) 8) (mul-assoc (2 ^ (8 * m)) 256 above ∙ mul-left-comm (2 ^ (8 * m)) 256 above) in
+    omega (arith, little-more x l e (omega arith) k, little-more x l (l + suc m) (omega arith) (omega arith), rw on at rest, shifted)
+
+pub little-halves : (x : List ℕ) (l m n : ℕ) → l + (m + n) ≤ length x
+    → littleEndian (slice l (l + m) x) + 2 ^ (8 * m) * littleEndian (slice (l + m) (l + m + n) x) ≡ littleEndian (slice l (l + (m + n)) x)
+little-halves x l m n h = rw (let e : l + m + n ≡ l + (m + n) = omega arith in e) (above-low x l m (l + (m + n)) (omega arith) h)
+
+module _ (l n : ℕ) (z : List ℕ) (h : l + n ≤ length z) where
+  long : length (slice l (l + n) z) ≡ n
+  long = length-slice l (l + n) z h ∙ (let e : l + n - l ≡ n = omega arith in e)
+
+  letter-in : (t : ℕ) → t < n → getD (slice l (l + n) z) t 0 ≡ getD z (l + t) 0
+  letter-in t k = getD-drop l (take (l + n) z) t 0 ∙ getD-take (l + n) z (l + t) 0 (omega arith)
+
+  bytes-back : Bytes z → bytesOf n (littleEndian (slice l (l + n) z)) ≡ slice l (l + n) z
+  bytes-back b = let e = bytes-of-letters (slice l (l + n) z) (bytes-slice l (l + n) z b) in rw long at e
+
+-- ---- what the numbers of n letters from l on tell of two words that agree up to there
+
+module _ (x y : List ℕ) (l n : ℕ) (p : l + n ≤ length x) (q : l + n ≤ length y) (bx : Bytes x) (by : Bytes y) (g : Matched x y l) where
+  abbrev atX : List ℕ
+  atX = slice l (l + n) x
+
+  abbrev atY : List ℕ
+  atY = slice l (l + n) y
+
+  more-matched : (k : ℕ) → k ≤ n → ((t : ℕ) → t < k → getD atX t 0 ≡ getD atY t 0) → Matched x y (l + k)
+  more-matched k h e = record { left = omega arith; right = omega arith; equal = λ t b. go t b (decLt t l) }
+    where
+      go : (t : ℕ) → t < l + k → Dec (t < l) → getD x t 0 ≡ getD y t 0
+      go t b (yes c) = g .equal t c
+      go t b (no c) =
+          let i : t ≡ l + (t - l) = omega arith in
+          rw i (sym (letter-in l n x p (t - l) (omega arith)) ∙ (e (t - l) (omega arith) ∙ letter-in l n y q (t - l) (omega arith)))
+
+  same-letters : littleEndian atX ≡ littleEndian atY → atX ≡ atY
+  same-letters e = sym (bytes-back l n x p bx) ∙ (ap (bytesOf n) e ∙ bytes-back l n y q by)
+
+  pub equal-numbers : littleEndian atX ≡ littleEndian atY → Matched x y (l + n)
+  equal-numbers e = more-matched n (omega arith) (λ t h. ap (λ (z : List ℕ). getD z t 0) (same-letters e))
+
+  parted : (k : ℕ) → ¬ (littleEndian atX ≡ littleEndian atY) → Agree atX atY k → PartedAt x y (l + k)
+  parted k d a = record {
+    agree = record {
+      matched = more-matched k (omega (arith, few)) (a .matched .equal);
+      differ = λ h i e.
+          a .differ (omega (arith, few, long l n x p)) (omega (arith, few, long l n y q)) (letter-in l n x p k few ∙ (e ∙ sym (letter-in l n y q k few)));
+    };
+    left = omega (arith, few);
+    right = omega (arith, few);
+  }
+    where
+      go : Dec (k < n) → k < n
+      go (yes h) = h
+      go (no h) = absurd (d (ap littleEndian (agree-same a (omega (arith, long l n x p)) (omega (arith, long l n x p, long l n y q)))))
+
+      few : k < n
+      few = go (decLt k n)
+
+  pub numbers-part : ¬ (littleEndian atX ≡ littleEndian atY) → PartedAt x y (l + commonLength (bytesOf n (littleEndian atX)) (bytesOf n (littleEndian atY)))
+  numbers-part d = rw (bytes-back l n x p bx, bytes-back l n y q by) (parted (commonLength atX atY) d (common-agree atX atY))
