@@ -1,8 +1,12 @@
 //! The records that are timed.
+use crate::cases::Case;
 use metsroeb_tests::words::{fibonacci_word, Random};
 
-/// A kind of record: its name, how many different records of it take turns, and what makes one from a length and its number.
-pub type Input = (&'static str, usize, fn(usize, usize) -> Vec<u8>);
+/// Makes a record from a length and its number.
+pub type Make = fn(usize, usize) -> Vec<u8>;
+
+/// A kind of record: its name, how many different records of it take turns, and what makes one.
+pub type Input = (&'static str, usize, Make);
 
 /// Random records take turns, so that no branch predictor knows them by heart. Marks are in those records alone that name them; an
 /// earlier archive that has no marks is not timed on these, since it does other work there.
@@ -40,4 +44,33 @@ pub const INPUTS: &[Input] = &[
 fn random(length: usize, number: usize, letters: usize) -> Vec<u8> {
     let mut random = Random::new(0x5eed_0100 + number as u64);
     (0..length).map(|_| random.below(letters) as u8).collect()
+}
+
+/// A kind of two starts: its name, the most bytes that they share, and whether the range then ends.
+pub type Starts = (&'static str, usize, bool);
+
+pub const STARTS: &[Starts] = &[
+    ("differ at the first byte", 0, false),
+    ("differ within the first eight bytes", 7, false),
+    ("differ within the first 24 bytes", 23, false),
+    ("agree on the last 1 to 24 bytes", 24, true),
+];
+
+/// How many records are made of each kind of two starts. Each call is given one that is drawn: a branch predictor learns a fixed sequence of
+/// 4,096 calls by heart.
+pub const TWO_STARTS: usize = 64;
+
+/// Two starts far apart in a record of random letters, which goes on behind them. How many bytes they share, where they stand and
+/// which of them comes first is drawn.
+pub fn two_starts((_, most, ends): Starts, n: usize, number: usize) -> Case {
+    let mut record = random(n, number, 255);
+    let mut random = Random::new(0x5eed_0200 + number as u64);
+    let (early, late) = (random.below(n / 4), n / 2 + random.below(n / 4));
+    let common = if ends { 1 + random.below(most) } else { random.below(most + 1) };
+    record.copy_within(early..early + common, late);
+    if record[early + common] == record[late + common] {
+        record[late + common] ^= 1;
+    }
+    let starts = if random.below(2) == 0 { [early, late] } else { [late, early] };
+    Case { record, starts, end: if ends { late + common } else { n }, ..Case::default() }
 }

@@ -1,16 +1,20 @@
 //! Times the verified calls and the peer's, or those of an earlier archive. A line for each call, input and length: their
 //! names and the nanoseconds of one call of both. An argument picks the calls whose names have it.
 #![cfg_attr(earlier, allow(dead_code))] // what only calls need that an earlier crate lacks, and parts of that crate
+mod cases;
 #[cfg(earlier)]
 #[rustfmt::skip] // its files are there only where it is built
 mod earlier;
 mod inputs;
 
+use cases::{Buffers, Case};
 #[cfg(earlier)]
 use earlier as other;
-use inputs::{Input, INPUTS};
+use inputs::{two_starts, INPUTS, STARTS, TWO_STARTS};
 #[cfg(not(earlier))]
 use metsroeb_tests::peer as other;
+use metsroeb_tests::peer::by_eights;
+use metsroeb_tests::words::Random;
 use std::hint::black_box;
 use std::time::Instant;
 
@@ -24,50 +28,9 @@ const LENGTHS: [usize; 4] = [512, 1024, 2048, 4096];
 const ROUNDS: usize = 25;
 const BATCH_NS: f64 = 50_000.0;
 
-/// A record and what the calls read beside it.
-struct Case {
-    record: Vec<u8>,
-    strict_ends: Vec<u16>,
-    /// The start whose suffix agrees longest with the record.
-    start: usize,
-    /// As many bytes as the record has, in records of 64 and of 256 bytes, and in one.
-    batches: [Batch; 3],
-}
-
-/// Records one after another, and where each ends.
-struct Batch {
-    bytes: Vec<u8>,
-    record_ends: Vec<u32>,
-}
-
-impl Batch {
-    /// Records of the kind, `length` bytes each, all of them others where they are random.
-    fn new(make: fn(usize, usize) -> Vec<u8>, n: usize, number: usize, length: usize) -> Batch {
-        let bytes = (0..n / length).flat_map(|k| make(length, number + 64 * k)).collect();
-        Batch { bytes, record_ends: (1..=n / length).map(|k| (k * length) as u32).collect() }
-    }
-}
-
 /// Reads the answers of a batch: how many ends there are in all.
 fn count_ends<'a, E>(replies: impl Iterator<Item = Result<&'a [u16], E>>) -> usize {
     replies.flatten().map(<[u16]>::len).sum()
-}
-
-impl Case {
-    fn new(make: fn(usize, usize) -> Vec<u8>, n: usize, number: usize) -> Case {
-        let record = make(n, number);
-        let strict_ends = metsroeb::cfl_in(&record, &mut vec![0; n]).unwrap().to_vec();
-        let agreement = |&start: &usize| metsroeb::compare_suffixes(&record, 0, n, 0, start).unwrap().common;
-        let start = (1..n).rev().max_by_key(agreement).unwrap();
-        Case { batches: [64, 256, n].map(|length| Batch::new(make, n, number, length)), strict_ends, start, record }
-    }
-}
-
-/// What the calls fill, the same for all records of a length.
-struct Buffers {
-    work: Vec<u16>,
-    result: Vec<u16>,
-    breaks: Vec<u16>,
 }
 
 type Call = fn(&Case, &mut Buffers);
@@ -75,6 +38,11 @@ type Call = fn(&Case, &mut Buffers);
 /// The timed calls of a module that has the crate's functions, by name. `numbers` reads a comparison; it widens the number, since the
 /// stack frame of a smaller answer ends with a load that waits for the stores of its parts: 3 nanoseconds, half of a short call.
 macro_rules! calls_of {
+    (comparison $of:ident, $numbers:expr) => {
+        |case, _| {
+            black_box($of::compare_suffixes(&case.record, 0, case.end, case.starts[0], case.starts[1]).map($numbers)).ok();
+        }
+    };
     (batch $of:ident, $batch:expr, $lent:expr) => {{
         let found = $of::icfl_batch(&$batch.bytes, &$batch.record_ends, &mut $lent.work, &mut $lent.result);
         black_box(found.map(|batch| count_ends(batch.iter()))).ok();
@@ -109,9 +77,7 @@ macro_rules! calls_of {
             ("`metsroeb_lyndon_table`", |case, lent| {
                 black_box($of::lyndon_table(&case.record, &mut lent.result)).ok();
             }),
-            ("`metsroeb_compare`, the record with its suffix that agrees longest", |case, _| {
-                black_box($of::compare_suffixes(&case.record, 0, case.record.len(), 0, case.start).map($numbers)).ok();
-            }),
+            (SUFFIXES, calls_of!(comparison $of, $numbers)),
             ("`metsroeb_factor`, the last of the strict cut", |case, _| {
                 black_box($of::factor_at(&case.record, &case.strict_ends, case.strict_ends.len() - 1)).ok();
             }),
@@ -126,30 +92,48 @@ macro_rules! calls_of {
     };
 }
 
+const SUFFIXES: &str = "`metsroeb_compare`, the record with its suffix that agrees longest";
+
 const VERIFIED: &[(&str, Call)] = &calls_of!(metsroeb);
 #[cfg(has = "common")]
 const OTHER: &[(&str, Call)] = &calls_of!(other);
 #[cfg(not(has = "common"))]
 const OTHER: &[(&str, Call)] = &calls_of!(other, |order| order);
+const BY_EIGHTS: Call = calls_of!(comparison by_eights, |found| (found.order, usize::from(found.common)));
 
-/// What is timed, by name: each verified call beside the other side's, and the verified cut with breaks beside the one without.
-fn pairs() -> Vec<(&'static str, [Call; 2])> {
-    let both = VERIFIED.iter().zip(OTHER).map(|(&(name, verified), &(_, other))| (name, [verified, other]));
-    let mut pairs: Vec<_> = both.collect();
+type Pair = (&'static str, [Call; 2]);
+
+/// What is timed on INPUTS, and what on STARTS, by name: each verified call beside the other side's; the verified cut with breaks beside the
+/// one without; the verified comparison beside the second peer's.
+fn pairs() -> [Vec<Pair>; 2] {
+    let mut pairs: Vec<Pair> = VERIFIED.iter().zip(OTHER).map(|(of, other)| (of.0, [of.1, other.1])).collect();
+    let sides_of = |wanted| pairs.iter().find(|(name, _)| *name == wanted).unwrap().1;
+    let comparison = sides_of(SUFFIXES);
+    let mut comparisons = vec![("`metsroeb_compare`, two starts that", comparison)];
     if cfg!(not(earlier)) {
-        let verified = |wanted| VERIFIED.iter().find(|(name, _)| *name == wanted).unwrap().1;
-        let sides = ["`metsroeb_icfl_breaks`", "`metsroeb_icfl`"].map(verified);
+        let sides = ["`metsroeb_icfl_breaks`", "`metsroeb_icfl`"].map(|name| sides_of(name)[0]);
         pairs.push(("`metsroeb_icfl_breaks` over `metsroeb_icfl`, both verified", sides));
+        let sides = [comparison[0], BY_EIGHTS];
+        pairs.push(("`metsroeb_compare` beside eight bytes a step, the record with its suffix that agrees longest", sides));
+        comparisons.push(("`metsroeb_compare` beside eight bytes a step, two starts that", sides));
     }
-    pairs
+    [pairs, comparisons]
+}
+
+/// Cases that take turns, or of which each call is given one that is drawn.
+struct Bench {
+    cases: Vec<Case>,
+    lent: Buffers,
+    drawn: Option<Random>,
 }
 
 /// Nanoseconds of one call.
-fn batch(call: Call, (cases, lent): &mut (Vec<Case>, Buffers), repeats: usize) -> f64 {
+fn batch(call: Call, Bench { cases, lent, drawn }: &mut Bench, repeats: usize) -> f64 {
     let begin = Instant::now();
     for _ in 0..repeats {
-        for case in &*cases {
-            call(black_box(case), black_box(lent));
+        for turn in 0..cases.len() {
+            let number = drawn.as_mut().map_or(turn, |random| random.below(TWO_STARTS));
+            call(black_box(&cases[number]), black_box(lent));
         }
     }
     begin.elapsed().as_nanos() as f64 / (repeats * cases.len()) as f64
@@ -162,14 +146,11 @@ fn median(times: &mut [f64]) -> f64 {
 
 /// For each length the nanoseconds of a call, verified and other. Both and all lengths alternate, and who begins, so that they meet the same
 /// machine and the same caches.
-fn measure(sides: [Call; 2], (_, records, make): Input) -> [(f64, f64); 4] {
-    let mut benches = LENGTHS.map(|n| {
-        let cases = (0..records).map(|k| Case::new(make, n, k)).collect::<Vec<_>>();
-        (cases, Buffers { work: vec![0; 3 * n], result: vec![0; n], breaks: vec![0; 5 * n] })
-    });
+fn measure(sides: [Call; 2], bench: impl Fn(usize) -> Bench) -> [(f64, f64); 4] {
+    let mut benches = LENGTHS.map(bench);
     let repeats = benches.each_mut().map(|b| {
         let once = batch(sides[0], b, 2).min(batch(sides[1], b, 2));
-        ((BATCH_NS / once.max(1.0)) as usize / b.0.len()).clamp(1, 20_000)
+        ((BATCH_NS / once.max(1.0)) as usize / b.cases.len()).clamp(1, 20_000)
     });
     let mut times = LENGTHS.map(|_| [Vec::new(), Vec::new()]);
     for round in 0..ROUNDS {
@@ -182,14 +163,27 @@ fn measure(sides: [Call; 2], (_, records, make): Input) -> [(f64, f64); 4] {
     times.map(|[mut verified, mut other]| (median(&mut verified), median(&mut other)))
 }
 
+fn print(name: &str, kind: &str, times: [(f64, f64); 4]) {
+    for (n, (verified, other)) in LENGTHS.into_iter().zip(times) {
+        println!("{name}\t{kind}\t{n}\t{verified:.2}\t{other:.2}");
+    }
+}
+
 fn main() {
     black_box(metsroeb_bench_pad as *const ());
     let wanted = std::env::args().nth(1).unwrap_or_default();
-    for (name, sides) in pairs().into_iter().filter(|(name, _)| name.contains(&wanted)) {
-        for &input in INPUTS {
-            for (n, (verified, other)) in LENGTHS.into_iter().zip(measure(sides, input)) {
-                println!("{name}\t{}\t{n}\t{verified:.2}\t{other:.2}", input.0);
-            }
+    let [pairs, comparisons] = pairs().map(|pairs| pairs.into_iter().filter(|(name, _)| name.contains(&wanted)));
+    for (name, sides) in pairs {
+        for &(kind, count, make) in INPUTS {
+            let cases = |n| (0..count).map(|k| Case::new(make, n, k)).collect();
+            print(name, kind, measure(sides, |n| Bench { cases: cases(n), lent: Buffers::new(n), drawn: None }));
+        }
+    }
+    for (name, sides) in comparisons {
+        for &starts in STARTS {
+            let cases = |n| (0..TWO_STARTS).map(|k| two_starts(starts, n, k)).collect();
+            let drawn = |n| Some(Random::new(0x5eed_0300 + n as u64)); // other draws for each length
+            print(name, starts.0, measure(sides, |n| Bench { cases: cases(n), lent: Buffers::new(n), drawn: drawn(n) }));
         }
     }
 }

@@ -1,7 +1,7 @@
 /* Calls each function on record H and compares the answers with paper 01's; the cut with its breaks on record I, as request
- * 102 has it; the comparison also on record G, whose starts agree past the end of its first piece; the summary also where two
- * parts are equally long; test, cuts and table on a record with a mark; batches of records, with refusals among them and
- * with lists of record ends that are refused. */
+ * 102 has it; the comparison also on record G, whose starts agree past the end of its first piece, and on starts that agree on
+ * about eight bytes; the summary also where two parts are equally long; test, cuts and table on a record with a mark; batches
+ * of records, with refusals among them and with lists of record ends that are refused. */
 #include "metsroeb.h"
 
 #include <stdio.h>
@@ -26,6 +26,17 @@ static void expect_entries(const char *what, const uint16_t *got, const uint16_t
             differed = 1;
         }
     }
+}
+
+/* Two starts of a record of 20 bytes, in the range from 0 to the end. */
+static void expect_comparison(const char *what, const uint8_t *record, size_t end, size_t start, size_t other, long sign,
+                              long common)
+{
+    int8_t got_sign;
+    uint16_t got_common;
+    expect(what, metsroeb_compare(record, 20, 0, end, start, other, &got_sign, &got_common), 0);
+    expect(what, got_sign, sign);
+    expect(what, got_common, common);
 }
 
 /* Every place of the answer: these replies, then results of 0. */
@@ -122,6 +133,7 @@ int main(void)
     static const uint8_t record[] = {'c', 'b', 'a', 'b', 'a', 'c', 'b', 'a', 'c'};
     static const uint8_t joined[] = "cbabacaacbabacbac";
     static const uint8_t agreeing[] = "bbabbabbb";
+    static const uint8_t eights[] = "bbbbbbbbbabbbbbbbbba";
     static const uint8_t marked[] = {'b', 'a', 255, 'a', 'b'};
     static const uint16_t zeros[51];
     static const uint16_t pieces[] = {5, 9};
@@ -208,6 +220,12 @@ int main(void)
     expect("compare, past it", metsroeb_compare(agreeing, 9, 0, 9, 0, 3, &sign, &common), 0);
     expect("compare, past it: sign", sign, 1);
     expect("compare, past it: common", common, 5);
+
+    expect_comparison("compare, ninth byte", eights, 20, 0, 1, -1, 8);
+    expect_comparison("compare, eighth byte", eights, 20, 0, 2, -1, 7);
+    expect_comparison("compare, fifth byte, and another behind it", eights, 20, 5, 3, 1, 4);
+    expect_comparison("compare, to the ninth byte", eights, 9, 0, 1, 1, 8);
+    expect_comparison("compare, to an end that the starts agree past", eights, 17, 0, 10, 1, 7);
 
     expect("factor", metsroeb_factor(record, n, pieces, 2, 1, &first, &end), 0);
     expect("factor: first", first, 5);

@@ -7,6 +7,7 @@ pub mod reference; // answers, by paper 01's definitions
 pub mod words; // words of many kinds, from a seed
 
 use metsroeb::{Batch, Breaks, Comparison, Extension, Refusal, Summary};
+use peer::by_eights;
 
 pub type Filling = for<'a> fn(&[u8], &'a mut [u16]) -> Result<&'a [u16], Refusal>;
 
@@ -45,3 +46,6 @@ pub static VERIFIED: Calls = calls_of!(metsroeb);
 
 /// The peer.
 pub static PEER: Calls = calls_of!(peer);
+
+/// The peer, with the comparison that reads eight bytes at a time.
+pub static PEER_BY_EIGHTS: Calls = calls_of!(by_eights);

@@ -4,6 +4,7 @@ use naive::Call;
 use naive::ENTRIES;
 use naive::front;
 use naive::plus;
+use naive::set_letter;
 use samples::LISTS;
 use samples::Run;
 use samples::random_record;
@@ -11,6 +12,7 @@ use samples::shaped_record;
 use samples::spell;
 use samples::spell_with_marks;
 use trials::RANGES;
+use trials::WORDS;
 use trials::try_cases;
 
 /// Records of a kind, with the calls that are made on them.
@@ -27,6 +29,8 @@ pub enum Group {
     Lent,
     /// Two records of each length at the boundaries, one with marks; the comparison, at the boundaries of range and starts.
     Ranges,
+    /// Fifty equal letters but one, at each place, and one that is larger still 26 places on; two short words in them, alone.
+    Differences,
     /// A record of each length at the boundaries; the reader and the summary, on lists with faults.
     Lists,
 }
@@ -40,6 +44,11 @@ fn write_record(group: Group, i: usize, word: &mut [u8], run: &mut Run) -> usize
         Group::Long => shaped_record(word, 4 + i % 3, i / 3, run),
         Group::Lent => shaped_record(word, i % 7, i / 7, run),
         Group::Ranges => shaped_record(word, i % 7, if i < 7 { 1 } else { 14 }, run),
+        Group::Differences => {
+            set_letter(word, i, 1);
+            set_letter(word, plus(i, 26), 2);
+            50
+        }
         Group::Lists => shaped_record(word, i, 1, run),
     }
 }
@@ -110,6 +119,7 @@ fn on_word(group: Group, word: &[u8], run: &mut Run) {
     match group {
         Group::Lent => on_lent(word, run),
         Group::Ranges => on_call(Call::Compare, true, RANGES, word, run),
+        Group::Differences => on_call(Call::Common, false, WORDS, word, run),
         Group::Lists => {
             on_call(Call::Part, true, 5 * LISTS, word, run);
             on_call(Call::Summary, true, LISTS, word, run);

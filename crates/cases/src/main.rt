@@ -24,5 +24,6 @@ fn main() {
     try_group(Group::Lists, 7, &mut run);
     try_batches(300, 2500, &mut run);
     try_batches(8200, 30, &mut run);
+    try_group(Group::Differences, 50, &mut run);
     printing::print_all(&run);
 }

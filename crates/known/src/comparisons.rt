@@ -1,4 +1,4 @@
-//! What paper 01 and request 104 say of two starts in a range: the sign, and how many leading letters are equal.
+//! What paper 01 and the requests 104 and 106 say of two starts in a range: the sign, and how many leading letters are equal.
 use super::printing::print_refusal;
 use compare::Comparison;
 use libc::STDOUT_FILENO;
@@ -50,9 +50,21 @@ fn print_letters() {
     print_comparison(b"bba over 0 to 3, 0 and 1: ", b"bba", 0, 3, 0, 1);
 }
 
+// Differences about the eighth letter, one with another behind it; and ranges behind whose end the starts go on agreeing, or differ.
+fn print_eights() {
+    let word = b"bbbbbbbbbabbbbbbbbba";
+    print_comparison(b"(b^9 a)^2 over 0 to 20, 0 and 3: ", word, 0, 20, 0, 3);
+    print_comparison(b"(b^9 a)^2 over 0 to 20, 0 and 2: ", word, 0, 20, 0, 2);
+    print_comparison(b"(b^9 a)^2 over 0 to 20, 0 and 1: ", word, 0, 20, 0, 1);
+    print_comparison(b"(b^9 a)^2 over 0 to 20, 5 and 3: ", word, 0, 20, 5, 3);
+    print_comparison(b"(b^9 a)^2 over 0 to 17, 0 and 10: ", word, 0, 17, 0, 10);
+    print_comparison(b"(b^9 a)^2 over 0 to 9, 0 and 1: ", word, 0, 9, 0, 1);
+}
+
 /// Records of letters, and one with marks, which are the largest letters there.
 pub fn print_comparisons() {
     print_letters();
+    print_eights();
     let marked = b"\xff\xffa";
     print_comparison(b"Two marks, a over 0 to 2, 0 and 1: ", marked, 0, 2, 0, 1);
     print_comparison(b"Two marks, a over 0 to 3, 0 and 1: ", marked, 0, 3, 0, 1);

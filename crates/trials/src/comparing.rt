@@ -115,12 +115,8 @@ fn random_part<'a>(word: &'a [u8], from: usize, run: &mut Run) -> &'a [u8] {
     part(word, from, plus(from, draw(run, plus(left, 1))))
 }
 
-/// How far two parts at random agree, and how they compare; from case 2 on both begin at one place.
-pub fn words_agree(word: &[u8], code: usize, run: &mut Run) -> bool {
-    let from = draw(run, word.len());
-    let x = random_part(word, from, run);
-    let other = draw(run, word.len());
-    let y = random_part(word, if code < 2 { other } else { from }, run);
+// Whether two words compare, and agree so far, as by the second implementation.
+fn words_are_right(x: &[u8], y: &[u8]) -> bool {
     let order = common::compare_words(x, y);
     let found = Compared {
         sign: order.sign,
@@ -128,4 +124,24 @@ pub fn words_agree(word: &[u8], code: usize, run: &mut Run) -> bool {
     };
     let want = naive::compare_words(x, y);
     same(found, want) & (common::common_length(x, y) == want.common)
+}
+
+/// How many cases there are of two words: 4 of parts at random, and 25 by 25 of short ones.
+pub const WORDS: usize = 629;
+
+/// How far two parts at random agree, and how they compare; from case 2 on both begin at one place. From case 4 on they begin at places 0 and 25, and have
+/// each pair of lengths up to 24.
+pub fn words_agree(word: &[u8], code: usize, run: &mut Run) -> bool {
+    if 4 <= code {
+        let short = code - 4;
+        return words_are_right(
+            part(word, 0, short / 25),
+            part(word, 25, plus(25, short % 25)),
+        );
+    }
+    let from = draw(run, word.len());
+    let x = random_part(word, from, run);
+    let other = draw(run, word.len());
+    let y = random_part(word, if code < 2 { other } else { from }, run);
+    words_are_right(x, y)
 }

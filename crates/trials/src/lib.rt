@@ -8,4 +8,5 @@ mod driver; // so many cases of a call
 pub use batching::BATCH_BYTES;
 pub use batching::try_batch;
 pub use comparing::RANGES;
+pub use comparing::WORDS;
 pub use driver::try_cases;

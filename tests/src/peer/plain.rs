@@ -259,8 +259,8 @@ pub fn lyndon_table(record: &[u8], lengths: &mut [u16]) -> Result<usize, u8> {
     Ok(n)
 }
 
-/// The sign, and how many leading letters are equal.
-pub fn compare_suffixes(record: &[u8], first: usize, end: usize, start: usize, other: usize) -> Result<(i8, usize), u8> {
+/// The words from the two starts to the end of the range.
+pub fn words_in_range(record: &[u8], first: usize, end: usize, start: usize, other: usize) -> Result<(&[u8], &[u8]), u8> {
     check_record(record)?;
     if first >= end || end > record.len() {
         return Err(5);
@@ -268,7 +268,12 @@ pub fn compare_suffixes(record: &[u8], first: usize, end: usize, start: usize, o
     if start < first || start >= end || other < first || other >= end {
         return Err(6);
     }
-    let (x, y) = (&record[start..end], &record[other..end]);
+    Ok((&record[start..end], &record[other..end]))
+}
+
+/// The sign, and how many leading letters are equal.
+pub fn compare_suffixes(record: &[u8], first: usize, end: usize, start: usize, other: usize) -> Result<(i8, usize), u8> {
+    let (x, y) = words_in_range(record, first, end, start, other)?;
     Ok(match x.iter().zip(y).position(|(a, b)| a != b) {
         Some(common) => (if x[common] > y[common] { -1 } else { 1 }, common),
         None => (x.len().cmp(&y.len()) as i8, x.len().min(y.len())),

@@ -5,7 +5,7 @@ pub use metsroeb::raw::{Batch, Reply, Summary};
 use std::slice::{from_raw_parts, from_raw_parts_mut};
 
 /// Stores the count, 0 beside a refusal, and gives the refusal's number.
-fn store_count(answer: Result<usize, u8>, count: &mut u16) -> u8 {
+pub(super) fn store_count(answer: Result<usize, u8>, count: &mut u16) -> u8 {
     *count = answer.unwrap_or(0) as u16;
     answer.err().unwrap_or(0)
 }
