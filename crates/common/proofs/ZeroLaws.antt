@@ -1,60 +1,63 @@
 -- The trailing zeros of the exclusive or of two numbers tell how many of their leading bytes are equal (zeros-common): below the lowest bit that
 -- differs all bits are equal, and that bit lies in the first byte that differs. Stated over the number of bytes.
-use mathlib.Core.Path.{_≡_, refl, ap, ap₂, _∙_}
+use mathlib.Core.Path.{_≡_, refl, ap, sym, _∙_}
 use mathlib.Core.Bool.{Bool, true, false}
 use Prim.Native.Nat.{ℕ, zero, suc, _+_, _*_, _/_, _%_, _^_, _<_}
-use native.Mathlib.Nat.{suc-add, zero-add, add-zero, mul-one, pow-suc}
+use native.Mathlib.Nat.{zero-add, suc-add, mul-comm, div-one, pow-suc, div-div-eq-div-mul}
 use native.Mathlib.Omega.{arith}
+use lib.Arith.{mod-mul}
+use lib.Pow.{pow-pos}
 use lib.Count.{trailingZeros, under}
-use lib.Bits.{bitXor, xor-self, xor-lt, xor-block, xor-add-and, and-le-l, and-le-r, block-half, block-odd, shifted-half, shifted-even}
+use lib.Bits.{bitXor, xor-self, xor-shr, xor-mod, xor-add-and, and-le-l, and-le-r}
 use Rattle.words.specs.Words.{commonLength}
 use Rattle.words.specs.orders.Decisions.{Decides, holds, fails, eqb-test}
 use Rattle.common.specs.Eights.{bytesOf}
 
-under-less : (d t j : ℕ) → (d ≡ 0 → t < j) → under d t < suc j
-under-less zero t j h = let k = h refl in omega arith
-under-less (suc d) t j h = omega arith
+-- ---- trailing zeros of j + k bits: they end among the j lowest, or these are all zero and the count goes on above them
 
--- below j zero bits they go on
-zeros-above : (j k a : ℕ) → trailingZeros (j + k) (a * 2 ^ j) ≡ j + trailingZeros k a
-unfolding trailingZeros
-zeros-above zero k a = simp (zero-add, mul-one)
-zeros-above (suc j) k a = rw (suc-add j k, shifted-even a j, shifted-half a j, suc-add j (trailingZeros k a)) (ap suc (zeros-above j k a))
+data Zeros (j k n : ℕ) : ℕ → Type 0 where
+  low : {t : ℕ} → t < j → ¬ (n % 2 ^ j ≡ 0) → Zeros j k n t
+  above : n % 2 ^ j ≡ 0 → Zeros j k n (j + trailingZeros k (n / 2 ^ j))
 
--- a bit that is set among the j lowest ends them
-zeros-end : (j k a c : ℕ) → c < 2 ^ j → ¬ (c ≡ 0) → trailingZeros (j + k) (a * 2 ^ j + c) < j
+-- one bit more below
+zeros-bit : (j k n d : ℕ) {t : ℕ} → n % 2 ≡ d → Zeros j k (n / 2) t → Zeros (suc j) k n (under d t)
+zeros-bit j k n d e z = go d e z (rw (pow-suc 2 j) (mod-mul n (pow-pos j) (omega arith)))
+  where
+    halved : n / 2 / 2 ^ j ≡ n / 2 ^ suc j
+    halved = div-div-eq-div-mul n 2 (2 ^ j) ∙ ap (λ (m : ℕ). n / m) (mul-comm 2 (2 ^ j) ∙ sym (pow-suc 2 j))
+
+    go : (d : ℕ) {t : ℕ} → n % 2 ≡ d → Zeros j k (n / 2) t → n % 2 ^ suc j ≡ n / 2 % 2 ^ j * 2 + n % 2 → Zeros (suc j) k n (under d t)
+    go (suc d) e z split = low {t = 0} (omega arith) (λ none. absurd (omega arith))
+    go zero {t} e (low h some) split = low {t = suc t} (omega arith) (λ none. some (omega arith))
+    go zero e (above none) split =
+        let on : Zeros (suc j) k n (suc j + trailingZeros k (n / 2 ^ suc j)) = above (omega arith) in
+        rw halved (rw (suc-add j (trailingZeros k (n / 2 ^ suc j))) at on)
+
+zeros-of : (j k n : ℕ) → Zeros j k n (trailingZeros (j + k) n)
 unfolding trailingZeros
-zeros-end zero k a c h n = absurd (n (omega arith))
-zeros-end (suc j) k a c h n =
-    rw (suc-add j k, block-odd a j c, block-half a j c)
-    (under-less (c % 2) (trailingZeros (j + k) (a * 2 ^ j + c / 2)) j
-    (λ e. zeros-end j k a (c / 2) (omega (arith, pow-suc 2 j)) (λ z. n (omega arith))))
+zeros-of zero k n =
+    let all : Zeros 0 k n (0 + trailingZeros k (n / 1)) = above (omega arith) in
+    rw (zero-add k) (rw (zero-add (trailingZeros k (n / 1)), div-one n) at all)
+zeros-of (suc j) k n = rw (suc-add j k) (zeros-bit j k n (n % 2) refl (zeros-of j k (n / 2)))
+
+-- ---- two numbers by their bytes
 
 xor-none : (a b : ℕ) → bitXor a b ≡ 0 → a ≡ b
 xor-none a b e = omega (arith, xor-add-and a b, and-le-l a b, and-le-r a b)
 
--- ---- two numbers by their bytes
-
-by-bytes : (v w : ℕ) → bitXor v w ≡ bitXor (v / 256) (w / 256) * 2 ^ 8 + bitXor (v % 256) (w % 256)
-by-bytes v w =
-    let e : v ≡ v / 256 * 2 ^ 8 + v % 256 = omega arith in
-    let f : w ≡ w / 256 * 2 ^ 8 + w % 256 = omega arith in
-    ap₂ bitXor e f ∙ xor-block 8 (v / 256) (w / 256) (v % 256) (w % 256) (omega arith) (omega arith)
-
 pub zeros-common : (n v w : ℕ) → trailingZeros (8 * n) (bitXor v w) / 8 ≡ commonLength (bytesOf n v) (bytesOf n w)
 unfolding trailingZeros commonLength bytesOf
 zeros-common zero v w = refl
-zeros-common (suc n) v w = rw (let e : 8 * suc n ≡ 8 + 8 * n = omega arith in e, by-bytes v w) (go (eqb-test (v % 256) (w % 256)) (zeros-common n (v / 256) (w / 256)))
+zeros-common (suc n) v w =
+    rw (let e : 8 * suc n ≡ 8 + 8 * n = omega arith in e)
+    (go (eqb-test (v % 256) (w % 256)) (zeros-of 8 (8 * n) (bitXor v w)) (zeros-common n (v / 256) (w / 256)))
   where
-    above : ℕ
-    above = bitXor (v / 256) (w / 256)
+    later : ℕ
+    later = commonLength (bytesOf n (v / 256)) (bytesOf n (w / 256))
 
-    go : {t : Bool} → Decides (v % 256 ≡ w % 256) t → trailingZeros (8 * n) above / 8 ≡ commonLength (bytesOf n (v / 256)) (bytesOf n (w / 256))
-        → trailingZeros (8 + 8 * n) (above * 2 ^ 8 + bitXor (v % 256) (w % 256)) / 8 ≡ elim t [ true ↦ suc (commonLength (bytesOf n (v / 256)) (bytesOf n (w / 256))) | false ↦ 0 ]
-    go (holds e) ih =
-        let none : bitXor (v % 256) (w % 256) ≡ 0 = rw e (xor-self (w % 256)) in
-        let on = zeros-above 8 (8 * n) above in
-        rw (none, add-zero) (omega (arith, on, ih))
-    go (fails d) ih =
-        let low = zeros-end 8 (8 * n) above (bitXor (v % 256) (w % 256)) (xor-lt 8 (v % 256) (w % 256) (omega arith) (omega arith)) (λ z. d (xor-none _ _ z)) in
-        omega (arith, low)
+    go : {t : Bool} {z : ℕ} → Decides (v % 256 ≡ w % 256) t → Zeros 8 (8 * n) (bitXor v w) z
+        → trailingZeros (8 * n) (bitXor (v / 256) (w / 256)) / 8 ≡ later → z / 8 ≡ elim t [ true ↦ suc later | false ↦ 0 ]
+    go (holds e) (low h some) ih = absurd (some (xor-mod v w 8 ∙ rw e (xor-self (w % 256))))
+    go (holds e) (above none) ih = rw (xor-shr v w 8) (omega (arith, ih))
+    go (fails d) (low h some) ih = omega (arith, h)
+    go (fails d) (above none) ih = absurd (d (xor-none (v % 256) (w % 256) (sym (xor-mod v w 8) ∙ none)))
