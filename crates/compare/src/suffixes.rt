@@ -1,8 +1,9 @@
 //! The comparison of two suffixes within a range.
 use checks::Checked;
 ghost use mathlib.Core.Path.{_≡_};
-ghost use Rattle.checks.specs.Lines.{tried};
-ghost use Rattle.compare.specs.Compare.{compareLines, Compared};
+ghost use mathlib.Core.List.{[], _∷_};
+ghost use Rattle.checks.specs.Lines.{tried, rangeLine, startLine};
+ghost use Rattle.compare.specs.Compare.{Compared};
 
 /// What the comparison answers: −1, 0 or +1 and the number of equal leading letters, or the number of the refusal.
 pub enum Comparison {
@@ -10,12 +11,11 @@ pub enum Comparison {
     Refused(u8),
 }
 
-// The record, the range, the one start, the other.
-fn admit(word: &[u8], first: usize, end: usize, start: usize, other: usize) -> Checked
-    ensures { λ r. ⌜ r ≡ tried (compareLines (now (word .entry)) first end start other) ⌝ }
+// The range of a word of so many letters, the one start, the other.
+fn admit(letters: usize, first: usize, end: usize, start: usize, other: usize) -> Checked
+    ensures { λ r. ⌜ r ≡ tried (rangeLine letters first end ∷ startLine first end start ∷ startLine first end other ∷ []) ⌝ }
 {
-    checks::check_record(word)
-        .then(checks::check_range(word.len(), first, end))
+    checks::check_range(letters, first, end)
         .then(checks::check_start(first, end, start))
         .then(checks::check_start(first, end, other))
 }
@@ -31,7 +31,12 @@ pub fn compare_suffixes(
 ) -> Comparison
     ensures { λ r. ⌜ Compared (now (word .entry)) first end start other r ⌝ }
 {
-    let admitted = admit(word, first, end, start, other);
+    // By itself, so that what it says is not kept in a register through the comparison.
+    let recorded = checks::check_record(word);
+    let Checked::Passed = recorded else {
+        return Comparison::Refused(recorded.number());
+    };
+    let admitted = admit(word.len(), first, end, start, other);
     let Checked::Passed = admitted else {
         return Comparison::Refused(admitted.number());
     };

@@ -1,4 +1,4 @@
--- The lines have passed, so both starts lie in a range of the word; sign and number are those of the two remainders.
+-- The lines have passed, first 1 and 2 and then the others, so both starts lie in a range of the word; sign and number are those of the two remainders.
 use borrow.Author.Needs.{needs}
 use mathlib.Core.Path.{_≡_, _∙_}
 use Prim.Native.Nat.{ℕ}
@@ -8,22 +8,30 @@ use Rattle.words.specs.orders.CommonWithin.{common-parts}
 use Rattle.common.proofs.OrderLaws.{sign-read}
 use Rattle.checks.specs.declared.Checked.the-variants.{Passed}
 use Rattle.checks.specs.Lines.{tried}
-use Rattle.checks.proofs.LineLaws.{passed, refused}
+use Rattle.checks.proofs.LineLaws.{passed, refused, refused-first, passed-first}
 use Rattle.compare.specs.declared.suffixes.Comparison.{Comparison}
 use Rattle.compare.specs.Compare.{compareLines}
 use Rattle.compare.proofs.ComparisonLaws.{Within, within}
 use Rattle.compare.proofs.suffixes.compare_suffixes.Statement.{statement}
 use Rattle.compare.proofs.suffixes.compare_suffixes.Tie as tie
 
-passed-at : (c : tie.At-match-keys1) → let a = c .before .before .before .args in
-    tried (compareLines (a .word .now) (a .first) (a .end) (a .start) (a .other)) ≡ Passed
-passed-at c = passed _ (c .before .admit .ensures) (c .match .keys1)
+-- the range and the starts were tried after lines 1 and 2
+tried-at : (c : tie.After-admit) → let a = c .before .before .before .before .before .args in
+    c .admit .result ≡ tried (compareLines (a .word .now) (a .first) (a .end) (a .start) (a .other))
+tried-at c =
+    let at-match = c .before .before in
+    passed-first _ _ (passed _ (at-match .before .check-record .ensures) (at-match .match .keys1)) (c .admit .ensures)
 
-within-at : (c : tie.At-match-keys1) → let a = c .before .before .before .args in Within (a .word .now) (a .first) (a .end) (a .start) (a .other)
+passed-at : (c : tie.At-match2-keys1) → let a = c .before .before .before .before .before .before .args in
+    tried (compareLines (a .word .now) (a .first) (a .end) (a .start) (a .other)) ≡ Passed
+passed-at c = passed _ (tried-at (c .before)) (c .match2 .keys1)
+
+within-at : (c : tie.At-match2-keys1) → let a = c .before .before .before .before .before .before .args in
+    Within (a .word .now) (a .first) (a .end) (a .start) (a .other)
 within-at c = within _ _ _ _ _ (passed-at c)
 
-admit-requires : tie.Need-admit-requires
-admit-requires c κs = search needs
+check-record-requires : tie.Need-check-record-requires
+check-record-requires c κs = search needs
 
 enum-told : tie.Need-enum-told
 enum-told c = search needs
@@ -36,8 +44,26 @@ number-requires c κs = search needs
 
 returns : tie.Need-returns
 returns c =
+    let is-refused = c .before .before .match .keys2 in
+    let first = refused-first _ _ (c .before .before .before .check-record .ensures) is-refused in
+    record { answer = refused _ _ (λ (n : ℕ). Comparison.Refused n) first is-refused (c .number .ensures) }
+
+admit-requires : tie.Need-admit-requires
+admit-requires c κs = search needs
+
+enum-told-3 : tie.Need-enum-told-3
+enum-told-3 c = search needs
+
+enum-told-4 : tie.Need-enum-told-4
+enum-told-4 c = search needs
+
+number-requires-2 : tie.Need-number-requires-2
+number-requires-2 c κs = search needs
+
+returns-2 : tie.Need-returns-2
+returns-2 c =
     let at-match = c .before .before in
-    record { answer = refused _ _ (λ (n : ℕ). Comparison.Refused n) (at-match .before .admit .ensures) (at-match .match .keys2) (c .number .ensures) }
+    record { answer = refused _ _ (λ (n : ℕ). Comparison.Refused n) (tried-at (at-match .before)) (at-match .match2 .keys2) (c .number2 .ensures) }
 
 sub-compare-words : tie.Need-sub-compare-words
 sub-compare-words c = omega (arith, within-at (c .before))
@@ -60,8 +86,8 @@ part-compare-words-end-2 c = omega (arith, within-at (c .before .before))
 compare-words-requires : tie.Need-compare-words-requires
 compare-words-requires c κs = search needs
 
-returns-2 : tie.Need-returns-2
-returns-2 c =
+returns-3 : tie.Need-returns-3
+returns-3 c =
     let at-match = c .before .before .before .before .before in
     let h = within-at at-match in
     let order = c .before .compare-words .ensures in
@@ -72,5 +98,6 @@ returns-2 c =
 pub compare-suffixes-spec : {M : Type 1} → statement M
 compare-suffixes-spec =
     tie.close
-    (tie.spec admit-requires enum-told enum-told-2 number-requires returns sub-compare-words part-compare-words-start part-compare-words-end
-    sub-compare-words-2 part-compare-words-start-2 part-compare-words-end-2 compare-words-requires returns-2)
+    (tie.spec check-record-requires enum-told enum-told-2 number-requires returns admit-requires enum-told-3 enum-told-4 number-requires-2
+    returns-2 sub-compare-words part-compare-words-start part-compare-words-end sub-compare-words-2 part-compare-words-start-2
+    part-compare-words-end-2 compare-words-requires returns-3)
