@@ -56,17 +56,26 @@ little-two x l h =
       little-none x (suc (suc l)),
     ))
 
--- a number is made of its m low bytes and of the n above them
+-- a number moved up by one byte more
+byte-more : (m a : ℕ) → 2 ^ (8 * suc m) * a ≡ 256 * (2 ^ (8 * m) * a)
+byte-more m a =
+    let e : 8 * suc m ≡ 8 * m + 8 = omega arith in
+    rw (e, pow-add 2 (8 * m) 8) (mul-assoc (2 ^ (8 * m)) 256 a ∙ mul-left-comm (2 ^ (8 * m)) 256 a)
+
+-- a number is made of its m low bytes and of those above them
 above-low : (x : List ℕ) (l m e : ℕ) → l + m ≤ e → e ≤ length x
     → littleEndian (slice l (l + m) x) + 2 ^ (8 * m) * littleEndian (slice (l + m) e x) ≡ littleEndian (slice l e x)
 above-low x l zero e h k = rw (add-zero l, little-none x l) (omega arith)
 above-low x l (suc m) e h k =
     let on : suc l + m ≡ l + suc m = omega arith in
     let rest = above-low x (suc l) m e (omega arith) k in
-    let p : 8 * suc m ≡ 8 * m + 8 = omega arith in
-    let above = littleEndian (slice (l + suc m) e x) in
-    let shifted : 2 ^ (8 * suc m) * above ≡ 256 * (2 ^ (8 * m) * above) = rw (p, pow-add 2 (8 * m) 8) (mul-assoc (2 ^ (8 * m)) 256 above ∙ mul-left-comm (2 ^ (8 * m)) 256 above) in
-    omega (arith, little-more x l e (omega arith) k, little-more x l (l + suc m) (omega arith) (omega arith), rw on at rest, shifted)
+    omega (
+      arith,
+      little-more x l e (omega arith) k,
+      little-more x l (l + suc m) (omega arith) (omega arith),
+      rw on at rest,
+      byte-more m (littleEndian (slice (l + suc m) e x)),
+    )
 
 pub little-halves : (x : List ℕ) (l m n : ℕ) → l + (m + n) ≤ length x
     → littleEndian (slice l (l + m) x) + 2 ^ (8 * m) * littleEndian (slice (l + m) (l + m + n) x) ≡ littleEndian (slice l (l + (m + n)) x)
