@@ -2,7 +2,9 @@
 //! these by `then`, in the table's order, and passes a refusal up with its number unchanged.
 ghost use mathlib.Core.Path.{_≡_};
 ghost use mathlib.Core.List.{[], _∷_};
-ghost use Rattle.checks.specs.Lines.{_when_, tried, recordLines, workLine, resultLine, rangeLine, startLine, faultyEnds, endsLine, numberLine, markLine, faultyRecordEnds, recordEndsLine};
+ghost use Rattle.checks.specs.Lines.{_when_, tried};
+ghost use Rattle.checks.specs.Lines.{recordLines, workLine, resultLine, rangeLine, startLine, endsLine, numberLine, markLine, recordEndsLine};
+ghost use Rattle.checks.specs.Lines.{faultyEnds, faultyRecordEnds};
 ghost use Rattle.words.specs.Separated.{isMarked};
 ghost use Rattle.checks.specs.Answers.{numberOf, firstOf};
 

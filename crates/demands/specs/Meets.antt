@@ -152,7 +152,9 @@ batch-by bytes es work ends f z = record {
 
     go : (k : Checked) → batchBy (decided k (repliesWith 0 (batchOf bytes es work ends .answers)) (λ number. repliesWith number []))
         ≡ decided k (batchWith 0 (batchOf bytes es work ends .answers)) (λ number. batchWith number [])
-    go Passed = ap (λ (t : List Place). record { refusal = 0; places = t }) (places-back (batchOf bytes es work ends .answers) readable (mostRecords - length (batchOf bytes es work ends .answers)))
+    go Passed =
+        ap (λ (t : List Place). record { refusal = 0; places = t })
+        (places-back (batchOf bytes es work ends .answers) readable (mostRecords - length (batchOf bytes es work ends .answers)))
     go (Refused number) = ap (λ (t : List Place). record { refusal = number; places = t }) (places-back [] tt mostRecords)
 
 -- L tells the verdict: it is 0 for an inverse Lyndon word alone

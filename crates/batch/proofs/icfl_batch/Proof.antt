@@ -1,4 +1,5 @@
--- The list is checked, and 10 refuses; otherwise each turn lends the next record, the work buffer and what is left of the result buffer to the piece cut, and puts its answer into the next place.
+-- The list is checked, and 10 refuses; otherwise each turn lends the next record, the work buffer and what is left of the result buffer to the
+-- piece cut, and puts its answer into the next place.
 use borrow.Author.Needs.{needs}
 use Prim.Native.Nat.{_-_}
 use lib.ListN.{length}
