@@ -51,6 +51,7 @@ pub mod Factorizations
 pub mod Statements
 pub mod Separated
 pub mod SeparatedStatements
+pub mod Runs
 pub mod Examples
 pub mod SeparatedExamples
 pub mod Counterexamples
