@@ -1,13 +1,15 @@
 -- THEOREM examples. The records of paper 01 with known answers, computed from the definitions: one table, one theorem.
 -- Beside paper 01's rows: baababb tells "join at |r|" from "join below |r|"; the word of 31 letters joins twice, one join
 -- inside the other; aaab and cbabcbad tell the shortest r from the longest. Breaks (request 102) of I, of these, and of a falling record. Comparisons with how
--- far the starts agree (request 104): over the first piece of G, and past its end; a start with itself.
+-- far the starts agree (request 104): over the first piece of G, and past its end; a start with itself. Runs (request 107): a letter in a row, a run of the whole
+-- record and of a part, one that ends where another begins, two that begin together and two that end together; none in aba, where the period fits once and a half.
 use mathlib.Core.Path.{_≡_, refl}
 use mathlib.Core.List.{List, [], _∷_, map}
 use Prim.Native.Nat.{ℕ}
 use lib.IntN.{ℤ, pos, negsuc}
 use Rattle.words.specs.Words.{commonLength, sign, commonWithin}
 use Rattle.words.specs.Factorizations.{failingLength, prefixLength, borderLength, icflEnds, icflBreaks, cflInEnds, lyndonTable}
+use Rattle.words.specs.Runs.{Triple, runs}
 use Rattle.words.specs.declared.Fate.the-variants.{Kept, Joined}
 use Rattle.words.specs.declared.Break.{Break}
 
@@ -17,6 +19,7 @@ pub data Question : Type 0 where
   test : List ℕ → Question
   reasons : List ℕ → Question
   comparison : List ℕ → (first end start other : ℕ) → Question
+  repetitions : List ℕ → Question
 
 pub data Answer : Type 0 where
   ends : (pieces strict : List ℕ) → Answer
@@ -24,14 +27,16 @@ pub data Answer : Type 0 where
   fails : (failing prefix border : ℕ) → Answer
   breaks : List Break → Answer
   signed : ℤ → (common : ℕ) → Answer
+  triples : List Triple → Answer
 
 unfoldable pub answer : Question → Answer
-unfolding icflEnds icflBreaks cflInEnds lyndonTable failingLength prefixLength borderLength commonLength sign
+unfolding icflEnds icflBreaks cflInEnds lyndonTable failingLength prefixLength borderLength commonLength sign runs
 answer (cuts w) = ends (icflEnds w) (cflInEnds w)
 answer (table w) = lengths (lyndonTable w)
 answer (test w) = fails (failingLength w) (prefixLength w) (borderLength w)
 answer (reasons w) = breaks (icflBreaks w)
 answer (comparison w first end start other) = signed (sign w first end start other) (commonWithin w first end start other)
+answer (repetitions w) = triples (runs w)
 
 -- ---- the table: letters stand for their ASCII codes
 
@@ -100,6 +105,18 @@ rows =
     ∷ (comparison (b ∷ b ∷ a ∷ b ∷ b ∷ a ∷ b ∷ b ∷ b ∷ []) 0 6 0 3 gives signed (pos 1) 3)  -- G
     ∷ (comparison (b ∷ b ∷ a ∷ b ∷ b ∷ a ∷ b ∷ b ∷ b ∷ []) 0 9 0 3 gives signed (pos 1) 5)
     ∷ (comparison (b ∷ b ∷ a ∷ b ∷ b ∷ a ∷ b ∷ b ∷ b ∷ []) 0 6 2 2 gives signed (pos 0) 4)
+    ∷ (repetitions (a ∷ a ∷ b ∷ a ∷ a ∷ b ∷ a ∷ a ∷ []) gives triples ((0, 2, 1) ∷ (0, 8, 3) ∷ (3, 5, 1) ∷ (6, 8, 1) ∷ []))
+    ∷ (repetitions (a ∷ []) gives triples [])
+    ∷ (repetitions (a ∷ b ∷ c ∷ []) gives triples [])
+    ∷ (repetitions (a ∷ b ∷ a ∷ []) gives triples [])
+    ∷ (repetitions (a ∷ b ∷ a ∷ c ∷ a ∷ []) gives triples [])
+    ∷ (repetitions (a ∷ a ∷ []) gives triples ((0, 2, 1) ∷ []))
+    ∷ (repetitions (a ∷ a ∷ a ∷ a ∷ a ∷ []) gives triples ((0, 5, 1) ∷ []))
+    ∷ (repetitions (a ∷ b ∷ a ∷ b ∷ []) gives triples ((0, 4, 2) ∷ []))
+    ∷ (repetitions (a ∷ b ∷ a ∷ b ∷ a ∷ b ∷ a ∷ b ∷ []) gives triples ((0, 8, 2) ∷ []))
+    ∷ (repetitions (c ∷ a ∷ b ∷ a ∷ b ∷ a ∷ c ∷ []) gives triples ((1, 6, 2) ∷ []))
+    ∷ (repetitions (a ∷ a ∷ b ∷ b ∷ []) gives triples ((0, 2, 1) ∷ (2, 4, 1) ∷ []))
+    ∷ (repetitions (a ∷ b ∷ a ∷ b ∷ b ∷ a ∷ b ∷ b ∷ a ∷ []) gives triples ((0, 4, 2) ∷ (1, 9, 3) ∷ (3, 5, 1) ∷ (6, 8, 1) ∷ []))
     ∷ []
 
 pub examples : map (λ r. answer (question r)) rows ≡ map expected rows

@@ -45,6 +45,7 @@
 --   places       lists of words by their ends; demand 3
 --   scan         what the loops of the cuts and of the test know
 --   table        the Lyndon table
+--   repetitions  runs, or maximal repetitions: the list has each, once, in order
 --   stretches    all this of records with separators
 pub mod Words
 pub mod Factorizations
@@ -64,4 +65,5 @@ pub mod cfl_in
 pub mod places
 pub mod scan
 pub mod table
+pub mod repetitions
 pub mod stretches

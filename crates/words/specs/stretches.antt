@@ -5,6 +5,8 @@
 --   StretchBreaks      the breaks of a stretch, in the record's places
 --   StretchEnds        the ends by stretches, and by the kept breaks
 --   Places             letters, slices, boundaries and parts, by the first stretch
+--   StretchRuns        a run of a record lies in its first stretch, or after the separator
+--   SeparatedRuns      the list of runs: each, nothing else, once and in order; fewer than letters
 --   TableEntries       the table's entries: as of the whole record at a letter below the separator, 1 at a separator
 --   CflInSteps         the strict cut from left to right; every separator is a factor
 --   FailingPrefixes    L, |p| and |r| of a word that goes on, and at a letter above its first
@@ -18,6 +20,8 @@ pub mod Factors
 pub mod StretchBreaks
 pub mod StretchEnds
 pub mod Places
+pub mod StretchRuns
+pub mod SeparatedRuns
 pub mod TableEntries
 pub mod CflInSteps
 pub mod FailingPrefixes
