@@ -1,0 +1,5 @@
+pub mod InsertLaws
+pub mod Moving
+pub mod RankedLaws
+pub mod LongestLaws
+pub mod PlaceLaws

@@ -82,12 +82,15 @@ agree-left-unique w p k i l g = go (agree-left-is w p k i)
 abbrev pub leftOf : List ℕ → ℕ → ℕ → ℕ
 leftOf w i p = agreeLeft w p (p + 1) i
 
--- a run whose word is of the other order, which the letter before i tells, has to end before the word
+-- a run whose word is of the natural order, which the letter before i tells, has to end before the word does
+abbrev pub Counts : List ℕ → ℕ → ℕ → Type 0
+Counts w i e = (getD w (i - 1) 0 ≤ getD w i 0) ⊎ (e < length w)
+
 pub record Candidate (w : List ℕ) (i p : ℕ) : Type 0 where
   pub some : 0 < leftOf w i p
   pub near : leftOf w i p ≤ p
   pub twice : i + 2 * p ≤ repeatsTo w i p + leftOf w i p
-  pub counts : (getD w (i - 1) 0 ≤ getD w i 0) ⊎ (repeatsTo w i p < length w)
+  pub counts : Counts w i (repeatsTo w i p)
 
 abbrev isCandidate : List ℕ → ℕ → ℕ → Bool
 isCandidate w i p =
@@ -104,12 +107,14 @@ decides-or {P} {Q} (fails p) (fails q) = fails none
     none (inl h) = p h
     none (inr h) = q h
 
+pub counts-test : (w : List ℕ) (i e : ℕ) → Decides (Counts w i e) (leb (getD w (i - 1) 0) (getD w i 0) || ltb e (length w))
+counts-test w i e = decides-or (leb-test (getD w (i - 1) 0) (getD w i 0)) (leb-test (suc e) (length w))
+
 candidate-test : (w : List ℕ) (i p : ℕ) → Decides (Candidate w i p) (isCandidate w i p)
 candidate-test w i p = decides-map
     (λ h. record { some = h .0; near = h .1 .0; twice = h .1 .1 .0; counts = h .1 .1 .1 })
     (λ c. (c .some, (c .near, (c .twice, c .counts))))
-    (decides-and (leb-test 1 l) (decides-and (leb-test l p) (decides-and (leb-test (i + 2 * p) (e + l))
-    (decides-or (leb-test (getD w (i - 1) 0) (getD w i 0)) (leb-test (suc e) (length w))))))
+    (decides-and (leb-test 1 l) (decides-and (leb-test l p) (decides-and (leb-test (i + 2 * p) (e + l)) (counts-test w i e))))
   where
     l : ℕ
     l = leftOf w i p

@@ -1,0 +1,94 @@
+-- Runs in a buffer, three entries each: one stored (run-stored), the entries of a list (entries-append, entries-length), the runs that stand there
+-- (triples-length, triples-written, entries-triples, triples-at, triples-take); and a sorted list that gets one run more (listed, list-room, list-more).
+use mathlib.Core.Path.{_≡_, refl, ap, sym, _∙_}
+use mathlib.Core.List.{List, [], _∷_, _++_, flatten}
+use Prim.Native.Nat.{ℕ, zero, suc, _+_, _*_, _≤_, _<_}
+use native.Mathlib.Omega.{arith}
+use native.Mathlib.Numerals.{add-one, add-two}
+use lib.ListN.{length, take, drop, getD, set}
+use lib.Seq.{sets, drop-append-seam, getD-drop}
+use Rattle.buffers.specs.Buffers.{written}
+use Rattle.buffers.proofs.BufferLaws.{kept-past}
+use Rattle.words.specs.Runs.{Triple}
+use Rattle.words.specs.repetitions.Insertion.{insertRun, sorted, runAt, insert-length, sorted-more, sorted-length, sorted-in-order}
+use Rattle.runs.specs.Runs.{runEntries, entriesOf}
+use Rattle.runs.specs.Inserting.{runFrom, triples, InsertRoom}
+
+-- ---- entries
+
+pub run-stored : (xs : List ℕ) (at first end period : ℕ)
+    → set (set (set xs at first) (at + 1) end) (at + 2) period ≡ sets xs at (runEntries (first, end, period))
+run-stored xs at first end period = rw (add-one at, add-two at)
+
+pub entries-append : (rs qs : List Triple) → entriesOf (rs ++ qs) ≡ entriesOf rs ++ entriesOf qs
+unfolding flatten
+entries-append [] qs = refl
+entries-append (r ∷ rs) qs = ap (λ (t : List ℕ). runEntries r ++ t) (entries-append rs qs)
+
+pub entries-length : (rs : List Triple) → length (entriesOf rs) ≡ 3 * length rs
+unfolding flatten
+entries-length [] = refl
+entries-length (r ∷ rs) = omega (arith, entries-length rs)
+
+-- ---- the runs that stand in a buffer
+
+pub triples-length : (c : ℕ) (xs : List ℕ) → length (triples c xs) ≡ c
+unfolding triples
+triples-length zero xs = refl
+triples-length (suc c) xs = ap suc (triples-length c (drop 3 xs))
+
+pub triples-written : (rs : List Triple) (xs : List ℕ) → triples (length rs) (entriesOf rs ++ xs) ≡ rs
+unfolding triples flatten
+triples-written [] xs = refl
+triples-written (r ∷ rs) xs = ap (λ (t : List Triple). r ∷ t) (triples-written rs xs)
+
+three-more : (n : ℕ) → 3 * suc n ≡ suc (suc (suc (3 * n)))
+three-more n = omega arith
+
+pub entries-triples : (c : ℕ) (xs : List ℕ) → 3 * c ≤ length xs → entriesOf (triples c xs) ≡ take (3 * c) xs
+unfolding triples flatten
+entries-triples zero xs l = refl
+entries-triples (suc c) [] l = absurd (omega arith)
+entries-triples (suc c) (x ∷ []) l = absurd (omega arith)
+entries-triples (suc c) (x ∷ y ∷ []) l = absurd (omega arith)
+entries-triples (suc c) (x ∷ y ∷ z ∷ xs) l = rw (three-more c) (ap (λ (t : List ℕ). x ∷ y ∷ z ∷ t) (entries-triples c xs (omega arith)))
+
+pub triples-at : (c k : ℕ) (xs : List ℕ) → k < c → runAt (triples c xs) k ≡ runFrom xs (3 * k)
+unfolding triples
+triples-at zero k xs l = absurd (omega arith)
+triples-at (suc c) zero xs l = refl
+triples-at (suc c) (suc k) xs l = triples-at c k (drop 3 xs) (omega arith) ∙ later
+  where
+    later : runFrom (drop 3 xs) (3 * k) ≡ runFrom xs (3 * suc k)
+    later =
+        let a : 3 + 3 * k ≡ 3 * suc k = omega arith in
+        let b : 3 + (3 * k + 1) ≡ 3 * suc k + 1 = omega arith in
+        let e : 3 + (3 * k + 2) ≡ 3 * suc k + 2 = omega arith in
+        rw (getD-drop 3 xs (3 * k) 0, getD-drop 3 xs (3 * k + 1) 0, getD-drop 3 xs (3 * k + 2) 0, a, b, e)
+
+pub triples-take : (c k : ℕ) (xs : List ℕ) → k ≤ c → take k (triples c xs) ≡ triples k xs
+unfolding triples
+triples-take c zero xs l = refl
+triples-take zero (suc k) xs l = absurd (omega arith)
+triples-take (suc c) (suc k) xs l = ap (λ (t : List Triple). (getD xs 0 0, getD xs 1 0, getD xs 2 0) ∷ t) (triples-take c k (drop 3 xs) (omega arith))
+
+-- ---- a list that is written run by run
+
+-- xs holds the sorted list of rs
+module _ (rs : List Triple) (xs₀ xs : List ℕ) (s : xs ≡ written (entriesOf (sorted rs)) xs₀) where
+  pub listed : triples (length rs) xs ≡ sorted rs
+  listed =
+      ap (λ (n : ℕ). triples n xs) (sym (sorted-length rs))
+      ∙ ap (triples (length (sorted rs))) s
+      ∙ triples-written (sorted rs) (drop (length (entriesOf (sorted rs))) xs₀)
+
+  pub list-room : 3 * length rs + 3 ≤ length xs → InsertRoom xs (length rs)
+  list-room l = record { room = l; in-order = rw listed (sorted-in-order rs) }
+
+  pub list-more : (r : Triple) → written (entriesOf (insertRun r (triples (length rs) xs))) xs ≡ written (entriesOf (sorted (rs ++ r ∷ []))) xs₀
+  list-more r = rw (listed, sorted-more rs r) (ap (λ (t : List ℕ). entriesOf (insertRun r (sorted rs)) ++ t) kept)
+    where
+      kept : drop (length (entriesOf (insertRun r (sorted rs)))) xs ≡ drop (length (entriesOf (insertRun r (sorted rs)))) xs₀
+      kept = kept-past (length (entriesOf (sorted rs))) (length (entriesOf (insertRun r (sorted rs)))) xs xs₀
+          (omega (arith, entries-length (sorted rs), entries-length (insertRun r (sorted rs)), insert-length r (sorted rs)))
+          (ap (drop (length (entriesOf (sorted rs)))) s ∙ drop-append-seam (entriesOf (sorted rs)) (drop (length (entriesOf (sorted rs))) xs₀))

@@ -1,0 +1,105 @@
+-- Words in either order of the letters, as the code compares them: two words agree as far in both orders (agree-ranked), and the letters where they part decide which comes first
+-- (parted-decide), or that one is a prefix of the other (whole-fails, prefix-holds).
+use mathlib.Core.Path.{_≡_, refl, ap, sym, _∙_}
+use mathlib.Core.Bool.{Bool, true, false}
+use mathlib.Core.List.{List, [], _∷_, map}
+use Prim.Native.Nat.{ℕ, zero, suc, _-_, _<_}
+use native.Mathlib.Omega.{arith}
+use lib.ListN.{length, take, drop, getD}
+use lib.Dec.{ltb}
+use Rattle.buffers.proofs.PartLaws.{part}
+use Rattle.words.specs.Words.{_≺_, mismatch, commonLength}
+use Rattle.words.specs.orders.Decisions.{Decides, holds, fails, leb-test}
+use Rattle.words.specs.orders.InverseLaws.{pre, ≺-≼, ≺-not-≼, ≼-not-≪}
+use Rattle.words.specs.orders.CommonLength.{Agree, matched-none, common-agree, agree-sym, agree-⊑, agree-shorter, agree-≪}
+use Rattle.words.specs.repetitions.TwoOrders.{UpTo, reversed, reversed-length, reversed-at}
+use Rattle.runs.specs.Longest.{mostByte, ranked, Precedes}
+
+-- ---- letters
+
+pub natural-decides : {natural : Bool} (a b : ℕ) → natural ≡ true → Decides (Precedes natural a b) (ltb a b)
+natural-decides a b e = rw e (leb-test (suc a) b)
+
+pub inverse-decides : {natural : Bool} (a b : ℕ) → natural ≡ false → Decides (Precedes natural a b) (ltb b a)
+inverse-decides a b e = rw e (leb-test (suc b) a)
+
+-- ---- words
+
+pub ranked-length : (natural : Bool) (w : List ℕ) → length (ranked natural w) ≡ length w
+ranked-length true w = reversed-length mostByte w
+ranked-length false w = refl
+
+map-part : (f : ℕ → ℕ) (a b : ℕ) (w : List ℕ) → map f (part a b w) ≡ part a b (map f w)
+map-part f a b w = map-take (b - a) (drop a w) ∙ ap (take (b - a)) (map-drop a w)
+  where
+    map-take : (n : ℕ) (v : List ℕ) → map f (take n v) ≡ take n (map f v)
+    map-take zero v = refl
+    map-take (suc n) [] = refl
+    map-take (suc n) (x ∷ v) = ap (λ (t : List ℕ). f x ∷ t) (map-take n v)
+
+    map-drop : (n : ℕ) (v : List ℕ) → map f (drop n v) ≡ drop n (map f v)
+    map-drop zero v = refl
+    map-drop (suc n) [] = refl
+    map-drop (suc n) (x ∷ v) = map-drop n v
+
+pub ranked-part : (natural : Bool) (a b : ℕ) (w : List ℕ) → ranked natural (part a b w) ≡ part a b (ranked natural w)
+ranked-part true a b w = map-part (λ x. mostByte - x) a b w
+ranked-part false a b w = refl
+
+agree-reversed : {u v : List ℕ} {l : ℕ} → UpTo mostByte u → UpTo mostByte v → Agree u v l → Agree (reversed mostByte u) (reversed mostByte v) l
+agree-reversed {u} {v} {l} p q g = record {
+  matched = record {
+    left = rw (reversed-length mostByte u) (g .matched .left);
+    right = rw (reversed-length mostByte v) (g .matched .right);
+    equal = λ t h. reversed-at mostByte u t (omega (arith, g .matched .left))
+        ∙ (ap (λ (a : ℕ). mostByte - a) (g .matched .equal t h) ∙ sym (reversed-at mostByte v t (omega (arith, g .matched .right))));
+  };
+  differ = λ h k e.
+      let x : l < length u = rw (reversed-length mostByte u) at h in
+      let y : l < length v = rw (reversed-length mostByte v) at k in
+      g .differ x y (omega (arith, p l, q l, reversed-at mostByte u l x, reversed-at mostByte v l y));
+}
+
+pub agree-ranked : (natural : Bool) {u v : List ℕ} {l : ℕ} → UpTo mostByte u → UpTo mostByte v → Agree u v l → Agree (ranked natural u) (ranked natural v) l
+agree-ranked true p q g = agree-reversed p q g
+agree-ranked false p q g = g
+
+-- the letters where they part
+ranked-less : (natural : Bool) (u v : List ℕ) (l : ℕ) → UpTo mostByte u → UpTo mostByte v → l < length u → l < length v
+    → Precedes natural (getD u l 0) (getD v l 0) → getD (ranked natural v) l 0 < getD (ranked natural u) l 0
+ranked-less true u v l p q h k x = omega (arith, p l, q l, reversed-at mostByte u l h, reversed-at mostByte v l k)
+ranked-less false u v l p q h k x = x
+
+precedes-other : (natural : Bool) (a b : ℕ) → ¬ (a ≡ b) → ¬ Precedes natural a b → Precedes natural b a
+precedes-other true a b n h = omega arith
+precedes-other false a b n h = omega arith
+
+-- as far as they agree
+pub agree-first : (u v : List ℕ) → ¬ (getD v 0 0 ≡ getD u 0 0) → Agree u v 0
+agree-first u v d = record { matched = matched-none u v; differ = λ h k e. d (sym e) }
+
+pub agree-at : (u v : List ℕ) (l : ℕ) → l ≡ commonLength u v → Agree u v l
+agree-at u v l e = rw e (common-agree u v)
+
+module _ (natural : Bool) (u v : List ℕ) {l : ℕ} (p : UpTo mostByte u) (q : UpTo mostByte v) (g : Agree u v l) where
+  ranks : Agree (ranked natural u) (ranked natural v) l
+  ranks = agree-ranked natural p q g
+
+  pub parted-decide : {t : Bool} → l < length u → l < length v → Decides (Precedes natural (getD u l 0) (getD v l 0)) t
+      → Decides (ranked natural u ≺ ranked natural v) t
+  parted-decide h k (holds x) =
+      holds (mismatch (agree-≪ (agree-sym ranks) (rw (ranked-length natural v) k) (rw (ranked-length natural u) h) (ranked-less natural u v l p q h k x)))
+  parted-decide h k (fails x) =
+      let y : Precedes natural (getD v l 0) (getD u l 0) = precedes-other natural (getD u l 0) (getD v l 0) (g .differ h k) x in
+      let less = agree-≪ ranks (rw (ranked-length natural u) h) (rw (ranked-length natural v) k) (ranked-less natural v u l q p k h y) in
+      fails (λ z. ≼-not-≪ (≺-≼ z) less)
+
+  -- v is a prefix of u
+  pub whole-fails : l ≡ length v → Decides (ranked natural u ≺ ranked natural v) false
+  whole-fails e = fails (λ z. ≺-not-≼ z (pre (agree-⊑ (agree-sym ranks) (rw (ranked-length natural v) (omega arith)))))
+
+  -- u is a proper prefix of v
+  pub prefix-holds : l ≡ length u → ¬ (l ≡ length v) → Decides (ranked natural u ≺ ranked natural v) true
+  prefix-holds e n =
+      let k : length u < length v = omega (arith, g .matched .right) in
+      holds (agree-shorter ranks (rw (ranked-length natural u) (omega arith)) (rw (ranked-length natural u, ranked-length natural v) k))
