@@ -82,6 +82,54 @@ impl Iterator for Breaks<'_> {
 
 impl ExactSizeIterator for Breaks<'_> {}
 
+/// A maximal repetition: a part of a stretch that has the period, and with a byte more on either side would not have it. A record
+/// without marks is one stretch.
+#[derive(Clone, Copy, Debug, PartialEq, Eq)]
+pub struct Run {
+    /// Its first place.
+    pub first: u16,
+    /// Its end.
+    pub end: u16,
+    /// Its smallest period, which fits in it at least twice.
+    pub period: u16,
+}
+
+/// The three entries of a repetition, as [`metsroeb_runs`](crate::raw::metsroeb_runs) writes them.
+impl From<[u16; 3]> for Run {
+    #[inline]
+    fn from([first, end, period]: [u16; 3]) -> Run {
+        Run { first, end, period }
+    }
+}
+
+/// The maximal repetitions of a record, by first place and then by period, read from the entries that [`runs`](crate::runs) filled.
+#[derive(Clone, Debug)]
+pub struct Runs<'a>(slice::Iter<'a, [u16; 3]>);
+
+impl<'a> Runs<'a> {
+    /// The repetitions in the entries that [`metsroeb_runs`](crate::raw::metsroeb_runs) filled.
+    #[inline]
+    pub fn read(entries: &'a [u16]) -> Runs<'a> {
+        Runs(entries.as_chunks().0.iter())
+    }
+}
+
+impl Iterator for Runs<'_> {
+    type Item = Run;
+
+    #[inline]
+    fn next(&mut self) -> Option<Run> {
+        self.0.next().map(|&entries| entries.into())
+    }
+
+    #[inline]
+    fn size_hint(&self) -> (usize, Option<usize>) {
+        self.0.size_hint()
+    }
+}
+
+impl ExactSizeIterator for Runs<'_> {}
+
 /// What the piece cut answers for each record of a batch, in their order, as [`icfl_batch`](crate::icfl_batch) finds it.
 #[derive(Clone, Debug)]
 pub struct Batch<'a> {

@@ -3,7 +3,7 @@
 //! and what is lent to be written overlaps nothing else.
 //!
 //! The tests compile this file a second time over a `raw` of their own, so it takes its names from the module above it.
-use super::{raw, Batch, Breaks, Comparison, Extension, Refusal, Summary};
+use super::{raw, Batch, Breaks, Comparison, Extension, Refusal, Runs, Summary};
 
 /// The test: whether the record is inverse Lyndon, and if not, where and how it fails.
 ///
@@ -205,6 +205,39 @@ pub fn lyndon_table<'a>(record: &[u8], lengths: &'a mut [u16]) -> Result<&'a [u1
         raw::metsroeb_lyndon_table(record.as_ptr(), record.len(), lengths.as_mut_ptr(), lengths.len(), &mut count)
     })?;
     Ok(&lengths[..usize::from(count)])
+}
+
+/// The maximal repetitions: every [`Run`](crate::Run) of the record, by first place and then by period. A mark, the byte 255, is in
+/// none of them and ends its neighbours.
+///
+/// A repetition fills three entries of `runs`. A record has fewer of them than bytes, so three times as many entries as it has bytes
+/// are always enough; a record without any needs none. The call keeps 8 KiB of its own on the stack.
+///
+/// Refusals: [`EMPTY_RECORD`](Refusal::EMPTY_RECORD), [`LONG_RECORD`](Refusal::LONG_RECORD),
+/// [`SHORT_RESULT`](Refusal::SHORT_RESULT).
+///
+/// ```
+/// use metsroeb::{runs, Refusal, Run};
+///
+/// let mut entries = [0; 12];
+/// let found = runs(b"aabaabaa", &mut entries)?;
+/// assert_eq!(found.len(), 4);
+/// assert!(found.eq([
+///     Run { first: 0, end: 2, period: 1 },
+///     Run { first: 0, end: 8, period: 3 },
+///     Run { first: 3, end: 5, period: 1 },
+///     Run { first: 6, end: 8, period: 1 },
+/// ]));
+/// assert_eq!(runs(b"aabaabaa", &mut entries[..11]).err(), Some(Refusal::SHORT_RESULT));
+/// assert!(runs(b"abab\xffab", &mut entries)?.eq([Run { first: 0, end: 4, period: 2 }]));
+/// assert_eq!(runs(b"abc", &mut [])?.len(), 0);
+/// # Ok::<(), Refusal>(())
+/// ```
+#[inline]
+pub fn runs<'a>(record: &[u8], runs: &'a mut [u16]) -> Result<Runs<'a>, Refusal> {
+    let mut count = 0;
+    Refusal::check(unsafe { raw::metsroeb_runs(record.as_ptr(), record.len(), runs.as_mut_ptr(), runs.len(), &mut count) })?;
+    Ok(Runs::read(&runs[..3 * usize::from(count)]))
 }
 
 /// The comparison, in the inverse order, of the words from `start` to `end` and from `other` to `end`: `Less` if the one at

@@ -30,9 +30,9 @@ mod calls;
 pub mod raw;
 mod refusal;
 
-pub use answers::{Batch, Break, Breaks, Comparison, Extension, Fate, Summary};
+pub use answers::{Batch, Break, Breaks, Comparison, Extension, Fate, Run, Runs, Summary};
 pub use calls::{
-    cfl_in, compare_suffixes, factor_at, find_extension, icfl, icfl_batch, icfl_with_breaks, lyndon_table, summarize,
+    cfl_in, compare_suffixes, factor_at, find_extension, icfl, icfl_batch, icfl_with_breaks, lyndon_table, runs, summarize,
 };
 pub use refusal::Refusal;
 

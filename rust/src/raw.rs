@@ -106,6 +106,9 @@ extern "C" {
         count: *mut u16,
     ) -> u8;
 
+    /// The maximal repetitions: see [`runs`](crate::runs). [`Runs::read`](crate::Runs::read) reads their entries, three for each.
+    pub fn metsroeb_runs(record: *const u8, record_len: usize, runs: *mut u16, runs_len: usize, count: *mut u16) -> u8;
+
     /// The comparison: see [`compare_suffixes`](crate::compare_suffixes). The sign is -1, 0 or 1; `common` is the number of equal
     /// leading bytes.
     pub fn metsroeb_compare(

@@ -25,7 +25,7 @@ impl Refusal {
     /// Test, piece cut (also with its breaks, also of a batch): the work buffer has fewer entries than the record's length
     /// (test) or three times that (piece cut).
     pub const SHORT_WORK: Refusal = Refusal::line(3);
-    /// All cuts, also of a batch, start table: a result buffer, or what is left of it, has fewer entries than the answer.
+    /// All cuts, also of a batch, start table, repetitions: a result buffer, or what is left of it, has fewer entries than the answer.
     pub const SHORT_RESULT: Refusal = Refusal::line(4);
     /// Comparison: the range's first place is not below its end, or its end is above the record's length.
     pub const BAD_RANGE: Refusal = Refusal::line(5);

@@ -1,16 +1,30 @@
-//! The second peer of the comparison: it reads a word of eight bytes where eight remain on both sides in the range. The other calls
-//! are the first peer's.
+//! The second peer of the comparison and of the repetitions: it reads a word of eight bytes where eight remain on both sides. The other
+//! calls are the first peer's.
 #[allow(clippy::duplicate_mod)] // the same functions, over another `raw`
 #[path = "../../../rust/src/calls.rs"]
 mod calls;
 
 pub use calls::*;
-use metsroeb::{Batch, Breaks, Comparison, Extension, Refusal, Summary};
+use metsroeb::{Batch, Breaks, Comparison, Extension, Refusal, Runs, Summary};
 
-/// The header's functions: the comparison of this file, and those of the first peer.
+/// The header's functions: the comparison and the repetitions with the numbers of equal letters of this file, and those of the first peer.
 mod raw {
     pub use super::super::raw::*;
-    use std::slice::from_raw_parts;
+    use super::super::runs;
+    use std::slice::{from_raw_parts, from_raw_parts_mut};
+
+    #[inline(never)]
+    pub unsafe extern "C" fn metsroeb_runs(
+        record: *const u8,
+        record_len: usize,
+        entries: *mut u16,
+        entries_len: usize,
+        count: *mut u16,
+    ) -> u8 {
+        let answer =
+            runs::runs(from_raw_parts(record, record_len), from_raw_parts_mut(entries, entries_len), super::common_length);
+        store_count(answer, &mut *count)
+    }
 
     #[inline(never)]
     pub unsafe extern "C" fn metsroeb_compare(

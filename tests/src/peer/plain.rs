@@ -5,9 +5,9 @@ use metsroeb::{MOST, MOST_RECORDS};
 
 /// A mark is a factor of every cut by itself. It is larger than every other letter, so a scan that does not begin with one ends
 /// before it.
-const SEPARATOR: u8 = 255;
+pub const SEPARATOR: u8 = 255;
 
-fn check_record(record: &[u8]) -> Result<(), u8> {
+pub fn check_record(record: &[u8]) -> Result<(), u8> {
     match record.len() {
         0 => Err(1),
         n if n > MOST => Err(2),

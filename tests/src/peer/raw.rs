@@ -1,6 +1,6 @@
 //! The header's functions over the peer's algorithms. The caller keeps the header's terms.
 #![allow(clippy::missing_safety_doc, clippy::too_many_arguments)]
-use super::{plain, Extension};
+use super::{plain, runs, Extension};
 pub use metsroeb::raw::{Batch, Reply, Summary};
 use std::slice::{from_raw_parts, from_raw_parts_mut};
 
@@ -108,6 +108,18 @@ pub unsafe extern "C" fn metsroeb_lyndon_table(
     count: *mut u16,
 ) -> u8 {
     store_count(plain::lyndon_table(from_raw_parts(record, record_len), from_raw_parts_mut(lengths, lengths_len)), &mut *count)
+}
+
+#[inline(never)]
+pub unsafe extern "C" fn metsroeb_runs(
+    record: *const u8,
+    record_len: usize,
+    entries: *mut u16,
+    entries_len: usize,
+    count: *mut u16,
+) -> u8 {
+    let answer = runs::runs(from_raw_parts(record, record_len), from_raw_parts_mut(entries, entries_len), runs::common_length);
+    store_count(answer, &mut *count)
 }
 
 #[inline(never)]
