@@ -1,8 +1,9 @@
 /* Metsroeb: the canonical inverse Lyndon factorization (ICFL) of a record, and what belongs to it.
  *
  * A record is a word of 1 to 4,096 bytes. Byte 255 is a mark, all other values are ordinary letters. Each mark is a
- * factor of both cuts by itself, with 1 in the start table; each nonempty stretch between neighbouring marks or the
- * record's edges is cut as a record by itself. The comparison takes 255 for the largest letter, the test refuses it.
+ * factor of both cuts by itself, with 1 in the start table, and belongs to no repetition; each nonempty stretch between
+ * neighbouring marks or the record's edges is cut as a record by itself, and has the repetitions that it has by itself.
+ * The comparison takes 255 for the largest letter, the test refuses it.
  * Places count from 0; an end is the place just past the last byte. Every function returns a refusal number, 0 for a
  * result, or a struct that holds it.
  *
@@ -20,7 +21,7 @@
  *   2  all         record_len is above 4,096
  *   3  test        work_len is below record_len
  *      icfl, icfl_breaks   work_len is below 3 * record_len
- *   4  icfl, icfl_breaks, cfl_in, lyndon_table   a result buffer has fewer entries than the answer
+ *   4  icfl, icfl_breaks, cfl_in, lyndon_table, runs   a result buffer has fewer entries than the answer
  *   5  compare     first is not below end, or end is above record_len
  *   6  compare     start or other is below first, or not below end
  *   7  factor, summarize   ends is empty, begins with 0, does not rise strictly, or its last end is not record_len
@@ -116,6 +117,13 @@ uint8_t metsroeb_cfl_in(const uint8_t *record, size_t record_len, uint16_t *ends
  * word that starts there within its stretch, 1 for a mark, and record_len to *count. Refusals 1, 2, 4. */
 uint8_t metsroeb_lyndon_table(const uint8_t *record, size_t record_len, uint16_t *lengths, size_t lengths_len,
                               uint16_t *count);
+
+/* The maximal repetitions: writes them to runs, from entry 0, by first place and then by period, and their number to
+ * *count. Each fills three entries: its first place, its end, and its period, which is the smallest one and fits at
+ * least twice; no byte can be added on either side with the period kept. Marks belong to none and end their neighbours.
+ * A record has fewer of them than bytes, so that 3 * record_len entries are always enough; one that has none needs none.
+ * No work buffer is lent: the call keeps a table of 8 KiB on the stack. Refusals 1, 2, 4. */
+uint8_t metsroeb_runs(const uint8_t *record, size_t record_len, uint16_t *runs, size_t runs_len, uint16_t *count);
 
 /* The comparison, in the inverse order, of the words from start to end and from other to end: *sign is -1 if the one
  * at start comes first, 0 if the starts are equal, 1 otherwise. In this order a proper prefix comes first, and

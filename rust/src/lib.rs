@@ -2,11 +2,11 @@
 //! (ICFL) of a word. The calls are proved (see the repository's README); this crate lends them slices and gives their
 //! answers as Rust values. It needs no heap, no standard library, and no other crate.
 //!
-//! A record is a word of 1 to [`MOST`] bytes. The byte 255 is a mark: a factor of every cut by itself, with 1 in the start table.
-//! Each nonempty stretch between neighbouring marks or the record's edges is cut as a record by itself. [`compare_suffixes`]
-//! takes 255 for the largest letter, [`find_extension`] refuses it; all other values are ordinary letters. Places count from 0;
-//! an end is the place just past the last byte. No call has a precondition: it gives a result or a [`Refusal`], and never
-//! panics.
+//! A record is a word of 1 to [`MOST`] bytes. The byte 255 is a mark: a factor of every cut by itself, with 1 in the start table, and
+//! in no repetition. Each nonempty stretch between neighbouring marks or the record's edges is cut as a record by itself, and has the
+//! repetitions that it has by itself. [`compare_suffixes`] takes 255 for the largest letter, [`find_extension`] refuses it; all other
+//! values are ordinary letters. Places count from 0; an end is the place just past the last byte. No call has a precondition: it
+//! gives a result or a [`Refusal`], and never panics.
 //!
 //! ```
 //! fn main() -> Result<(), metsroeb::Refusal> {

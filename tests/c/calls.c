@@ -1,7 +1,8 @@
 /* Calls each function on record H and compares the answers with paper 01's; the cut with its breaks on record I, as request
  * 102 has it; the comparison also on record G, whose starts agree past the end of its first piece, and on starts that agree on
  * about eight bytes; the summary also where two parts are equally long; test, cuts and table on a record with a mark; batches
- * of records, with refusals among them and with lists of record ends that are refused. */
+ * of records, with refusals among them and with lists of record ends that are refused; the repetitions of request 107's record,
+ * with and without room for them, and beside marks. */
 #include "metsroeb.h"
 
 #include <stdio.h>
@@ -128,6 +129,45 @@ static void batches(void)
     expect_buffers("icfl_batch, a mark: buffers", work, 9, ends, mark_ends, 3);
 }
 
+/* The whole buffer: these entries, and all else as it was. */
+static void expect_runs(const char *what, const char *record, size_t n, size_t room, long refusal, const uint16_t *want, size_t count)
+{
+    uint16_t runs[14], got = 77;
+    size_t i;
+    memset(runs, 0x5a, sizeof runs);
+    expect(what, metsroeb_runs((const uint8_t *)record, n, runs, room, &got), refusal);
+    expect(what, got, (long)count);
+    for (i = 0; i < 14; i++) {
+        expect(what, runs[i], i < 3 * count ? want[i] : 0x5a5a);
+    }
+}
+
+static void repetitions(void)
+{
+    static const uint16_t four[] = {0, 2, 1, 0, 8, 3, 3, 5, 1, 6, 8, 1};
+    static const uint16_t inside[] = {1, 8, 3, 2, 4, 1, 5, 7, 1, 8, 10, 1};
+    static const uint16_t once[] = {2, 4, 1};
+    static const uint16_t beside[] = {0, 4, 2, 6, 8, 1};
+    static const uint16_t whole[] = {0, METSROEB_MOST, 2};
+    static char longest[METSROEB_MOST + 1];
+    size_t i;
+    for (i = 0; i < sizeof longest; i++) {
+        longest[i] = i % 2 ? 'a' : 'b';
+    }
+    expect_runs("runs", "aabaabaa", 8, 14, 0, four, 4);
+    expect_runs("runs, just enough room", "aabaabaa", 8, 12, 0, four, 4);
+    expect_runs("runs, an entry too few", "aabaabaa", 8, 11, 4, four, 0);
+    expect_runs("runs, inside another", "mississippi", 11, 14, 0, inside, 4);
+    expect_runs("runs, a period that fits once", "abaab", 5, 14, 0, once, 1);
+    expect_runs("runs, none and no room", "abc", 3, 0, 0, four, 0);
+    expect_runs("runs, one and no room", "aa", 2, 0, 4, four, 0);
+    expect_runs("runs, marks", "abab\377\377aa\377a", 10, 14, 0, beside, 2);
+    expect_runs("runs, marks alone", "\377\377\377\377", 4, 14, 0, four, 0);
+    expect_runs("runs, no byte", "", 0, 14, 1, four, 0);
+    expect_runs("runs, most bytes", longest, METSROEB_MOST, 3, 0, whole, 1);
+    expect_runs("runs, a byte more", longest, METSROEB_MOST + 1, 14, 2, four, 0);
+}
+
 int main(void)
 {
     static const uint8_t record[] = {'c', 'b', 'a', 'b', 'a', 'c', 'b', 'a', 'c'};
@@ -243,6 +283,7 @@ int main(void)
     expect("summarize: from, the latest of them", summary.from, 4);
 
     batches();
+    repetitions();
 
     if (!differed) {
         puts("ok");

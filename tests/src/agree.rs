@@ -3,7 +3,7 @@ use crate::lent::Lent;
 use crate::reference::SEPARATOR;
 use crate::words::Random;
 use crate::{promise, reference, Calls, Filling, PEER};
-use metsroeb::{Break, Extension, Refusal};
+use metsroeb::{Break, Extension, Refusal, Run};
 use std::fmt::Debug;
 
 /// The right answers for a record.
@@ -14,12 +14,19 @@ pub struct Answers {
     pub breaks: Vec<Break>,
     pub cfl_in: Vec<u16>,
     pub lyndon_table: Vec<u16>,
+    pub runs: Vec<Run>,
 }
 
 impl Answers {
     /// For a record that is refused: none is looked at.
-    pub const NONE: Answers =
-        Answers { extension: None, icfl: Vec::new(), breaks: Vec::new(), cfl_in: Vec::new(), lyndon_table: Vec::new() };
+    pub const NONE: Answers = Answers {
+        extension: None,
+        icfl: Vec::new(),
+        breaks: Vec::new(),
+        cfl_in: Vec::new(),
+        lyndon_table: Vec::new(),
+        runs: Vec::new(),
+    };
 
     pub fn by_definition(word: &[u8]) -> Answers {
         let (icfl, breaks) = reference::icfl_with_breaks(word);
@@ -29,19 +36,21 @@ impl Answers {
             breaks,
             cfl_in: reference::cfl_in(word),
             lyndon_table: reference::lyndon_table(word),
+            runs: reference::runs(word),
         }
     }
 
     /// For words that are too long for the definitions.
     pub fn by_peer(word: &[u8]) -> Answers {
         let n = word.len();
-        let (mut work, mut result, mut breaks) = (vec![0; 3 * n], vec![0; n], vec![0; 5 * n]);
+        let (mut work, mut result, mut breaks, mut runs) = (vec![0; 3 * n], vec![0; n], vec![0; 5 * n], vec![0; 3 * n]);
         Answers {
             extension: (PEER.find_extension)(word, &mut work).ok(),
             icfl: (PEER.icfl)(word, &mut work, &mut result).unwrap().to_vec(),
             breaks: (PEER.icfl_with_breaks)(word, &mut work, &mut result, &mut breaks).unwrap().1.collect(),
             cfl_in: (PEER.cfl_in)(word, &mut result).unwrap().to_vec(),
             lyndon_table: (PEER.lyndon_table)(word, &mut result).unwrap().to_vec(),
+            runs: (PEER.runs)(word, &mut runs).unwrap().collect(),
         }
     }
 }
@@ -179,6 +188,19 @@ pub fn lyndon_table(calls: &Calls, word: &[u8], answers: &Answers, lengths_len: 
     filling("lyndon_table", calls.lyndon_table, word, &answers.lyndon_table, lengths_len, random);
 }
 
+pub fn runs(calls: &Calls, word: &[u8], answers: &Answers, runs_len: usize, random: &mut Random) {
+    let what = format!("runs with {runs_len} result entries on {}", shown(word));
+    let mut record = Lent::record(word, random);
+    let mut entries = Lent::entries(runs_len, random);
+    let (record_before, mut entries_after) = (record.clone(), entries.clone());
+    let got = (calls.runs)(record.part(), entries.part());
+    let found: Vec<Run> = got.iter().cloned().flatten().collect();
+    assert_eq!(got.iter().map(|runs| runs.len()).sum::<usize>(), found.len(), "{what}");
+    same(&what, got.map(|_| &found[..]), promise::runs(word.len(), &answers.runs, entries_after.part()));
+    entries.expect(&entries_after, &what);
+    record.expect(&record_before, &what);
+}
+
 /// `range` is the first place and the end, `starts` the two starts.
 pub fn compare_suffixes(calls: &Calls, word: &[u8], range: [usize; 2], starts: [usize; 2], random: &mut Random) {
     let what = format!("compare_suffixes over {range:?}, starts {starts:?}, on {}", shown(word));
@@ -235,6 +257,9 @@ pub fn all(calls: &Calls, word: &[u8], answers: &Answers, random: &mut Random) {
     cfl_in(calls, word, answers, n, random);
     let lengths_len = about(n, random);
     lyndon_table(calls, word, answers, lengths_len, random);
+    let runs_len = about(3 * answers.runs.len(), random);
+    runs(calls, word, answers, runs_len, random);
+    runs(calls, word, answers, 3 * n, random);
 
     let first = random.below(n);
     let end = first + 1 + random.below(n - first);

@@ -6,7 +6,7 @@ pub mod promise; // refusals and buffers, by paper 01's table
 pub mod reference; // answers, by paper 01's definitions
 pub mod words; // words of many kinds, from a seed
 
-use metsroeb::{Batch, Breaks, Comparison, Extension, Refusal, Summary};
+use metsroeb::{Batch, Breaks, Comparison, Extension, Refusal, Runs, Summary};
 use peer::by_eights;
 
 pub type Filling = for<'a> fn(&[u8], &'a mut [u16]) -> Result<&'a [u16], Refusal>;
@@ -20,6 +20,7 @@ pub struct Calls {
     pub icfl_batch: for<'a> fn(&[u8], &[u32], &mut [u16], &'a mut [u16]) -> Result<Batch<'a>, Refusal>,
     pub cfl_in: Filling,
     pub lyndon_table: Filling,
+    pub runs: for<'a> fn(&[u8], &'a mut [u16]) -> Result<Runs<'a>, Refusal>,
     pub compare_suffixes: fn(&[u8], usize, usize, usize, usize) -> Result<Comparison, Refusal>,
     pub factor_at: for<'a> fn(&'a [u8], &[u16], usize) -> Result<&'a [u8], Refusal>,
     pub summarize: fn(&[u8], &[u16]) -> Result<Summary, Refusal>,
@@ -34,6 +35,7 @@ macro_rules! calls_of {
             icfl_batch: $of::icfl_batch,
             cfl_in: $of::cfl_in,
             lyndon_table: $of::lyndon_table,
+            runs: $of::runs,
             compare_suffixes: $of::compare_suffixes,
             factor_at: $of::factor_at,
             summarize: $of::summarize,
@@ -47,5 +49,5 @@ pub static VERIFIED: Calls = calls_of!(metsroeb);
 /// The peer.
 pub static PEER: Calls = calls_of!(peer);
 
-/// The peer, with the comparison that reads eight bytes at a time.
+/// The peer, with the comparison and the repetitions that read eight bytes at a time.
 pub static PEER_BY_EIGHTS: Calls = calls_of!(by_eights);

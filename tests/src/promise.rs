@@ -2,7 +2,7 @@
 //! the buffers as they were before it, and leaves them as they have to be after it. It gives the right answer, or the number of
 //! the refusal.
 use crate::reference::{common_length, factors, inverse_order, summary, SEPARATOR};
-use metsroeb::{Break, Comparison, Extension, Fate, Summary};
+use metsroeb::{Break, Comparison, Extension, Fate, Run, Summary};
 
 fn refuse(no: u8, met: bool) -> Result<(), u8> {
     if met {
@@ -98,6 +98,14 @@ fn entries(breaks: &[Break]) -> Vec<u16> {
 pub fn filling<'a>(length: usize, answer: &'a [u16], result: &mut [u16]) -> Result<&'a [u16], u8> {
     record(length)?;
     fill(answer, result)
+}
+
+/// Three entries for each repetition.
+pub fn runs<'a>(length: usize, answer: &'a [Run], entries: &mut [u16]) -> Result<&'a [Run], u8> {
+    record(length)?;
+    let numbers: Vec<u16> = answer.iter().flat_map(|run| [run.first, run.end, run.period]).collect();
+    fill(&numbers, entries)?;
+    Ok(answer)
 }
 
 fn fill<'a>(answer: &'a [u16], result: &mut [u16]) -> Result<&'a [u16], u8> {

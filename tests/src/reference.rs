@@ -1,5 +1,5 @@
 //! The answers, by paper 01's definitions and the requests' sentences and nothing else: for short records.
-use metsroeb::{Break, Extension, Fate, Summary};
+use metsroeb::{Break, Extension, Fate, Run, Summary};
 use std::cmp::Ordering;
 
 /// The byte that is a mark, and no level.
@@ -141,6 +141,41 @@ pub fn lyndon_table(record: &[u8]) -> Vec<u16> {
         lengths.extend((0..stretch.len()).map(|i| longest_anti_lyndon(&stretch[i..]) as u16));
     }
     lengths
+}
+
+fn has_period(word: &[u8], period: usize) -> bool {
+    word[period..] == word[..word.len() - period]
+}
+
+/// Whether these are a maximal repetition of the record, by request 107: no mark in it; the period is the smallest one and fits at least
+/// twice; no byte but a mark, which belongs to none, can be added on either side with the period kept.
+pub fn is_run(record: &[u8], Run { first, end, period }: Run) -> bool {
+    let [first, end, period] = [first, end, period].map(usize::from);
+    let kept = |place: usize, other: usize| record[place] != SEPARATOR && record[place] == record[other];
+    let Some(word) = record.get(first..end).filter(|word| !word.contains(&SEPARATOR)) else { return false };
+    (1..=word.len() / 2).find(|&smallest| has_period(word, smallest)) == Some(period)
+        && !(first > 0 && kept(first - 1, first - 1 + period))
+        && !(end < record.len() && kept(end, end - period))
+}
+
+/// The maximal repetitions, by first place and then by period: from each place on, for each period that would not hold one place
+/// earlier too, as far as it holds. `is_run` says whether that is right.
+pub fn runs(record: &[u8]) -> Vec<Run> {
+    let mut runs = Vec::new();
+    for (from, stretch) in stretches(record) {
+        for first in 0..stretch.len() {
+            for period in 1..=(stretch.len() - first) / 2 {
+                if first > 0 && stretch[first - 1] == stretch[first - 1 + period] {
+                    continue;
+                }
+                let end = first + period + common_length(&stretch[first..], &stretch[first + period..]);
+                if 2 * period <= end - first && !(1..period).any(|smaller| has_period(&stretch[first..end], smaller)) {
+                    runs.push(Run { first: (from + first) as u16, end: (from + end) as u16, period: period as u16 });
+                }
+            }
+        }
+    }
+    runs
 }
 
 /// First place and end of each factor that a list of ends marks.

@@ -182,6 +182,25 @@ fn two_powers(random: &mut Random, length: usize) -> Vec<u8> {
     word
 }
 
+/// Letters, and what stands before them once more or several times: repetitions of many periods, one inside another. It is none of the
+/// kinds above.
+pub fn repeating(random: &mut Random, length: usize) -> Vec<u8> {
+    let (letters, longest) = (2 + random.below(2), 1 + random.below(length));
+    let mut word = vec![random.letter(letters)];
+    while word.len() < length {
+        let copied = 1 + random.below(word.len().min(longest));
+        let from = if random.below(4) > 0 { word.len() - copied } else { random.below(word.len() + 1 - copied) };
+        for _ in 0..1 + random.below(3) {
+            word.extend_from_within(from..from + copied);
+        }
+        for _ in 0..random.below(3) {
+            word.push(random.letter(letters));
+        }
+    }
+    word.truncate(length);
+    word
+}
+
 /// A word of another kind, with marks put into it: everywhere, at every second place, at the front, at the end, one, a row of them,
 /// or at random places.
 fn with_marks(random: &mut Random, length: usize) -> Vec<u8> {

@@ -1,9 +1,10 @@
 //! What requests 104 and 106 say of how far two starts agree, and which comes first, through every implementation. A library that reads
 //! words of eight bytes must not show it: neither where such a word ends, nor what stands in it behind a first difference or behind the
-//! range.
-use metsroeb::Comparison;
+//! range. The repetitions of request 107 are found by such agreements.
+use metsroeb::{Comparison, Run};
+use metsroeb_tests::agree::Answers;
 use metsroeb_tests::words::{Random, KINDS};
-use metsroeb_tests::{agree, promise, Calls, PEER, PEER_BY_EIGHTS, VERIFIED};
+use metsroeb_tests::{agree, promise, reference, Calls, PEER, PEER_BY_EIGHTS, VERIFIED};
 use std::cmp::Ordering;
 
 const ALL: [&Calls; 3] = [&VERIFIED, &PEER, &PEER_BY_EIGHTS];
@@ -181,4 +182,34 @@ fn over_a_range_and_to_the_end() {
         }
     }
     assert!(ended > 1000 && differed > 1000, "{ended} {differed}");
+}
+
+/// A repetition of each period and of each length about twice as much, at all places of a word of eight. Beside it the record ends, or has
+/// a mark or a byte that differs in a single bit from the one that would go on, and goes on agreeing behind that one.
+#[test]
+fn repetitions_end_anywhere() {
+    let mut random = Random::new(0x5eed_0048);
+    let other = |letter: u8, random: &mut Random| if random.below(2) == 0 { 255 } else { letter ^ 1 << random.below(8) };
+    for (period, more) in (1..=19).flat_map(|period| (0..=18).map(move |more| (period, more))) {
+        for first in 0..8 {
+            let letters = [1, 2, 254][random.below(3)];
+            let mut root: Vec<u8> = (0..period).map(|_| random.below(letters) as u8).collect();
+            root[random.below(period)] = 254; // once, so that no smaller period fits
+            let end = first + 2 * period + more;
+            let mut word: Vec<u8> = root.iter().copied().cycle().take(end + 1 + random.below(20)).collect();
+            word[end] = other(word[end], &mut random);
+            if let Some(before) = first.checked_sub(1) {
+                word[before] = other(word[before], &mut random);
+            }
+            if random.below(3) == 0 {
+                word.truncate(end);
+            }
+            let answers = Answers { runs: reference::runs(&word), ..Answers::NONE };
+            let [first, end, period] = [first, end, period].map(|number| number as u16);
+            assert!(answers.runs.contains(&Run { first, end, period }));
+            for calls in ALL {
+                agree::runs(calls, &word, &answers, 3 * answers.runs.len(), &mut random);
+            }
+        }
+    }
 }

@@ -1,5 +1,6 @@
 //! Paper 01's records with known ends, and what else it and the requests say of records by name, through every implementation.
-use metsroeb::{Break, Comparison, Extension, Fate, Refusal, Summary, MOST};
+use metsroeb::{Break, Comparison, Extension, Fate, Refusal, Run, Summary, MOST};
+use metsroeb_tests::words::fibonacci_word;
 use metsroeb_tests::{reference, Calls, PEER, VERIFIED};
 use std::cmp::Ordering;
 
@@ -113,6 +114,71 @@ fn start_table_and_summary_of_h() {
     }
 }
 
+/// First place, end and period of each repetition of a word; the reference has the same.
+fn runs_of(calls: &Calls, word: &[u8]) -> Vec<[u16; 3]> {
+    let mut entries = vec![0; 3 * word.len()];
+    let found: Vec<Run> = (calls.runs)(word, &mut entries).unwrap().collect();
+    assert_eq!(found, reference::runs(word));
+    found.iter().map(|run| [run.first, run.end, run.period]).collect()
+}
+
+/// Request 107, with its example. The others: none, for which no entry is needed; the smallest period alone, and an end within it; one
+/// inside another, at its front, in its middle and at its end; one that goes on in another.
+#[test]
+fn repetitions_of_records() {
+    let records: [(&str, &[[u16; 3]]); 10] = [
+        ("aabaabaa", &[[0, 2, 1], [0, 8, 3], [3, 5, 1], [6, 8, 1]]),
+        ("a", &[]),
+        ("abcacb", &[]),
+        ("aaaa", &[[0, 4, 1]]),
+        ("babab", &[[0, 5, 2]]),
+        ("abaab", &[[2, 4, 1]]),
+        ("mississippi", &[[1, 8, 3], [2, 4, 1], [5, 7, 1], [8, 10, 1]]),
+        ("abaababa", &[[0, 6, 3], [2, 4, 1], [3, 8, 2]]),
+        ("aabbaabbb", &[[0, 2, 1], [0, 8, 4], [2, 4, 1], [4, 6, 1], [6, 9, 1]]),
+        ("abababcabababc", &[[0, 6, 2], [0, 14, 7], [7, 13, 2]]),
+    ];
+    for (word, runs) in records {
+        for calls in BOTH {
+            assert_eq!(runs_of(calls, word.as_bytes()), runs);
+            let mut entries = vec![0; 3 * runs.len()];
+            assert_eq!((calls.runs)(word.as_bytes(), &mut entries).unwrap().len(), runs.len());
+        }
+    }
+}
+
+/// "Each fills three 16-bit entries in that order, from entry 0, and what a result buffer holds past the answer stays"; "a short list
+/// buffer gets 4", and is as it was.
+#[test]
+fn entries_of_a_list_and_short_lists() {
+    for calls in BOTH {
+        let mut entries = [7; 14];
+        assert_eq!((calls.runs)(b"aabaabaa", &mut entries).unwrap().len(), 4);
+        assert_eq!(entries, [0, 2, 1, 0, 8, 3, 3, 5, 1, 6, 8, 1, 7, 7]);
+        let mut entries = [7; 12];
+        for len in 0..12 {
+            assert_eq!((calls.runs)(b"aabaabaa", &mut entries[..len]).err(), Some(Refusal::SHORT_RESULT));
+            assert_eq!(entries, [7; 12]);
+        }
+    }
+}
+
+/// As published (Kolpakov and Kucherov): a Fibonacci word has twice as many repetitions as the one two before it has letters, less 3.
+#[test]
+fn repetitions_of_fibonacci_words() {
+    let (mut two_before, mut before) = (3, 5);
+    while two_before + before <= MOST {
+        let length = two_before + before;
+        for calls in BOTH {
+            for (x, y) in [(b'a', b'b'), (b'b', b'a')] {
+                assert_eq!(runs_of(calls, &fibonacci_word(x, y, length)).len(), 2 * two_before - 3);
+            }
+        }
+        (two_before, before) = (before, length);
+    }
+    assert_eq!(before, 2584);
+}
+
 /// Request 101: of equally long pieces the latest. E has three of them, K two; in the last record two are neighbours, and the
 /// third is neither their neighbour nor the last piece.
 #[test]
@@ -171,7 +237,7 @@ fn h_with_two_entries_and_with_one() {
 /// "Length 4,096 is accepted and 4,097 gets 2", by every call; the test refuses marks by 9.
 #[test]
 fn the_longest_record_and_one_byte_more() {
-    fn refusals(calls: &Calls, word: &[u8]) -> [Option<u8>; 8] {
+    fn refusals(calls: &Calls, word: &[u8]) -> [Option<u8>; 9] {
         let n = word.len();
         let (mut work, mut result, mut breaks) = (vec![0; 3 * n], vec![0; n], vec![0; 5 * n]);
         [
@@ -180,6 +246,7 @@ fn the_longest_record_and_one_byte_more() {
             (calls.icfl_with_breaks)(word, &mut work, &mut result, &mut breaks).err(),
             (calls.cfl_in)(word, &mut result).err(),
             (calls.lyndon_table)(word, &mut result).err(),
+            (calls.runs)(word, &mut work).err(),
             (calls.compare_suffixes)(word, 0, n, 0, n - 1).err(),
             (calls.factor_at)(word, &[n as u16], 0).err(),
             (calls.summarize)(word, &[n as u16]).err(),
@@ -189,10 +256,10 @@ fn the_longest_record_and_one_byte_more() {
     assert_eq!(MOST, 4096);
     for calls in BOTH {
         for letter in [0, b'a', 254, 255] {
-            let mut wanted = [None; 8];
+            let mut wanted = [None; 9];
             wanted[0] = (letter == 255).then_some(9);
             assert_eq!(refusals(calls, &vec![letter; 4096]), wanted);
-            assert_eq!(refusals(calls, &vec![letter; 4097]), [Some(2); 8]);
+            assert_eq!(refusals(calls, &vec![letter; 4097]), [Some(2); 9]);
         }
     }
 }

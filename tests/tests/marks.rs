@@ -1,5 +1,5 @@
-//! What request 103 says of records with marks, bytes 255, through every implementation.
-use metsroeb::{Break, Comparison, Fate, Refusal};
+//! What requests 103 and 107 say of records with marks, bytes 255, through every implementation.
+use metsroeb::{Break, Comparison, Fate, Refusal, Run};
 use metsroeb_tests::{reference, Calls, PEER, VERIFIED};
 use std::cmp::Ordering;
 
@@ -44,6 +44,33 @@ fn breaks_of_i_beside_a_mark() {
         assert_eq!(got, ends);
         assert_eq!(considered.collect::<Vec<_>>(), breaks);
         assert_eq!(work, [0; 105]);
+    }
+}
+
+/// "Marks (byte 255) belong to none and end their neighbours": neither equal marks side by side nor marks at equal distances repeat, and
+/// what would go on behind a mark ends before it.
+#[test]
+fn repetitions_beside_marks() {
+    let records: [(&[u8], &[[u16; 3]]); 11] = [
+        (b"\xff", &[]),
+        (b"\xff\xff\xff\xff", &[]),
+        (b"\xff\xffaa\xff\xff", &[[2, 4, 1]]),
+        (b"aa\xffaa", &[[0, 2, 1], [3, 5, 1]]),
+        (b"a\xffa\xffa\xffa", &[]),
+        (b"ab\xffab\xffab\xff", &[]),
+        (b"\xffabab", &[[1, 5, 2]]),
+        (b"abab\xffabab", &[[0, 4, 2], [5, 9, 2]]),
+        (b"aba\xffbab", &[]),
+        (b"aabaa\xffbaa", &[[0, 2, 1], [3, 5, 1], [7, 9, 1]]),
+        (b"baba\xff\xffaabaab", &[[0, 4, 2], [6, 8, 1], [6, 12, 3], [9, 11, 1]]),
+    ];
+    for (word, runs) in records {
+        let runs: Vec<Run> = runs.iter().map(|&entries| Run::from(entries)).collect();
+        assert_eq!(reference::runs(word), runs);
+        for calls in BOTH {
+            let mut entries = vec![0; 3 * runs.len()];
+            assert_eq!((calls.runs)(word, &mut entries).unwrap().collect::<Vec<_>>(), runs);
+        }
     }
 }
 

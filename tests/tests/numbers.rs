@@ -101,6 +101,10 @@ fn counts() {
             expect("metsroeb_lyndon_table", want, entries(&mut random), |[count]| unsafe {
                 raw::metsroeb_lyndon_table(word.as_ptr(), n, result.as_mut_ptr(), len, count)
             });
+            let want = metsroeb::runs(&word, &mut result).map(|runs| [runs.len() as u16]);
+            expect("metsroeb_runs", want, entries(&mut random), |[count]| unsafe {
+                raw::metsroeb_runs(word.as_ptr(), n, result.as_mut_ptr(), len, count)
+            });
         }
     }
 }

@@ -1,10 +1,10 @@
 //! Pseudo-random words of every kind, from fixed seeds. Words of up to 200 letters go against the definitions, longer ones against
 //! the peer, which is held to the definitions on the others.
-use metsroeb::{Break, Fate};
+use metsroeb::{Break, Fate, Run};
 use metsroeb_tests::agree::{self, Answers};
 use metsroeb_tests::reference::{self, SEPARATOR};
-use metsroeb_tests::words::{Random, KINDS};
-use metsroeb_tests::{Calls, PEER, VERIFIED};
+use metsroeb_tests::words::{repeating, Random, KINDS};
+use metsroeb_tests::{Calls, PEER, PEER_BY_EIGHTS, VERIFIED};
 
 /// `each` words of each kind, of `least` to `most` letters asked for.
 fn words(each: usize, least: usize, most: usize, random: &mut Random, mut with: impl FnMut(Vec<u8>, &mut Random)) -> usize {
@@ -66,6 +66,65 @@ fn comparisons_in_long_words() {
             agree::compare_suffixes(&VERIFIED, &word, [first, end], [start, other], random);
         }
     });
+}
+
+/// Words of every kind and words of repetitions, of up to 4,096 letters, at times with marks: the repetitions are those of the
+/// definition, and fewer than the bytes.
+#[test]
+fn repetitions_in_long_words() {
+    let mut random = Random::new(0x5eed_0019);
+    let mut both = |each, least, most| {
+        let check = |mut word: Vec<u8>, random: &mut Random| {
+            for _ in 0..random.below(4) / 2 * random.below(4) {
+                let place = random.below(word.len());
+                word[place] = SEPARATOR;
+            }
+            let answers = Answers { runs: reference::runs(&word), ..Answers::NONE };
+            assert!(answers.runs.len() < word.len());
+            let needed = 3 * answers.runs.len();
+            for calls in [&VERIFIED, &PEER, &PEER_BY_EIGHTS] {
+                for runs_len in [needed.saturating_sub(1), needed, needed + 1 + random.below(9)] {
+                    agree::runs(calls, &word, &answers, runs_len, random);
+                }
+            }
+        };
+        words(each, least, most, &mut random, check);
+        for _ in 0..10 * each {
+            let length = least + random.below(most + 1 - least);
+            check(repeating(&mut random, length), &mut random);
+        }
+    };
+    both(1000, 1, 40);
+    both(100, 41, 400);
+    both(6, 401, 4096);
+}
+
+/// What holds of the repetitions of any record: with the letters turned over they are the same; read backwards they are mirrored; those
+/// of two records with a mark between them are those of the one and those of the other.
+#[test]
+fn repetitions_turned_over() {
+    fn runs(word: &[u8]) -> Vec<Run> {
+        (VERIFIED.runs)(word, &mut vec![0; 3 * word.len()]).unwrap().collect()
+    }
+    let mut random = Random::new(0x5eed_001a);
+    let mut one = vec![b'a'];
+    for _ in 0..3000 {
+        let length = 1 + random.below(2000);
+        let word = repeating(&mut random, length);
+        let (n, found) = (word.len() as u16, runs(&word));
+        let turned: Vec<u8> = word.iter().map(|&letter| 254 - letter).collect();
+        assert_eq!(runs(&turned), found);
+        let backwards: Vec<u8> = word.iter().rev().copied().collect();
+        let mirrored = found.iter().map(|run| Run { first: n - run.end, end: n - run.first, ..*run });
+        let mut mirrored: Vec<Run> = mirrored.collect();
+        mirrored.sort_by_key(|run| (run.first, run.period));
+        assert_eq!(runs(&backwards), mirrored);
+        let behind = one.len() as u16 + 1;
+        let moved = found.into_iter().map(|run| Run { first: run.first + behind, end: run.end + behind, ..run });
+        let beside: Vec<Run> = runs(&one).into_iter().chain(moved).collect();
+        assert_eq!(runs(&[&one[..], &[SEPARATOR], &word].concat()), beside);
+        one = word;
+    }
 }
 
 /// What requests 102 and 103 say of the breaks of any record: the steps of a stretch follow one another, the letters and numbers are

@@ -53,6 +53,9 @@ fn records_and_buffers() {
                 agree::cfl_in(calls, &word, &answers, len, &mut random);
                 agree::lyndon_table(calls, &word, &answers, len, &mut random);
             }
+            for len in sizes(&[3 * answers.runs.len(), n]) {
+                agree::runs(calls, &word, &answers, len, &mut random);
+            }
         }
     }
 }

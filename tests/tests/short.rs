@@ -1,8 +1,10 @@
-//! All words of length 1 to 9 over 2 letters, 1 to 7 over 3, and 1 to 6 over 2 letters and the mark, against the definitions.
+//! All words of length 1 to 9 over 2 letters, 1 to 7 over 3, and 1 to 6 over 2 letters and the mark, against the definitions. The
+//! repetitions of longer ones too.
+use metsroeb::Run;
 use metsroeb_tests::agree::{self, Answers};
 use metsroeb_tests::reference;
 use metsroeb_tests::words::{all_marked_words, all_words, Random};
-use metsroeb_tests::{Calls, PEER, VERIFIED};
+use metsroeb_tests::{Calls, PEER, PEER_BY_EIGHTS, VERIFIED};
 
 fn short_words() -> impl Iterator<Item = Vec<u8>> {
     let two = (1..=9).flat_map(|length| all_words(2, length));
@@ -36,6 +38,9 @@ fn all_calls(calls: &Calls) {
             agree::cfl_in(calls, &word, &answers, ends_len, &mut random);
             agree::lyndon_table(calls, &word, &answers, ends_len, &mut random);
         }
+        for runs_len in 0..=3 * answers.runs.len() + 1 {
+            agree::runs(calls, &word, &answers, runs_len, &mut random);
+        }
         count += 1;
     }
     assert_eq!(count, 1022 + 3279 + 1092);
@@ -49,6 +54,48 @@ fn test_cuts_and_table_of_the_library() {
 #[test]
 fn test_cuts_and_table_of_the_peer() {
     all_calls(&PEER);
+}
+
+/// Up to 12 letters over 2, 9 over 3, 8 over 2 and the mark, 6 over 3 and the mark; with an entry too few, just enough and more.
+#[test]
+fn repetitions() {
+    let mut random = Random::new(0x5eed_0004);
+    let two = (1..=12).flat_map(|length| all_words(2, length));
+    let three = (1..=9).flat_map(|length| all_words(3, length));
+    let marked = [(3, 8), (4, 6)].into_iter();
+    let marked = marked.flat_map(|(letters, most)| (1..=most).flat_map(move |length| all_marked_words(letters, length)));
+    for word in two.chain(three).chain(marked) {
+        let answers = Answers { runs: reference::runs(&word), ..Answers::NONE };
+        let needed = 3 * answers.runs.len();
+        for calls in [&VERIFIED, &PEER, &PEER_BY_EIGHTS] {
+            for runs_len in [needed.saturating_sub(1), needed, needed + 1, 3 * word.len()] {
+                agree::runs(calls, &word, &answers, runs_len, &mut random);
+            }
+        }
+    }
+}
+
+/// The reference lists all that are repetitions by the request's text, by first place and then by period, and no others; fewer than
+/// the word has bytes.
+#[test]
+fn the_only_repetitions() {
+    for word in short_words() {
+        let n = word.len() as u16;
+        let places =
+            (0..n).flat_map(|first| (1..=n).flat_map(move |period| (first + 1..=n).map(move |end| (first, period, end))));
+        let all = places.map(|(first, period, end)| Run { first, end, period });
+        let found: Vec<Run> = all.filter(|&run| reference::is_run(&word, run)).collect();
+        assert!(found.len() < word.len());
+        assert_eq!(found, reference::runs(&word));
+    }
+}
+
+/// As published (Kolpakov and Kucherov): the most repetitions that a word of 5 to 15 letters over 2 has.
+#[test]
+fn the_most_repetitions() {
+    let count = |word: Vec<u8>| (VERIFIED.runs)(&word, &mut [0; 45]).unwrap().len();
+    let most: Vec<usize> = (5..=15).map(|length| all_words(2, length).map(count).max().unwrap()).collect();
+    assert_eq!(most, [2, 3, 4, 5, 5, 6, 7, 8, 8, 10, 10]);
 }
 
 /// Every range and every two starts of it.
