@@ -18,7 +18,7 @@ function row_of(call, record) {
     return call
 }
 # Reader and summary are called once for a page. The breaks may cost something, beside the cut without them. The second peer of the
-# comparison reads as the verified one does.
+# comparison and of the repetitions reads as the verified one does.
 function bar_of(row) {
     if (bar != "") return bar
     if (row ~ /both verified/) return 1.30

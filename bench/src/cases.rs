@@ -44,11 +44,12 @@ pub struct Buffers {
     pub work: Vec<u16>,
     pub result: Vec<u16>,
     pub breaks: Vec<u16>,
+    pub runs: Vec<u16>,
 }
 
 impl Buffers {
     /// As large as a record of `n` bytes can need them.
     pub fn new(n: usize) -> Buffers {
-        Buffers { work: vec![0; 3 * n], result: vec![0; n], breaks: vec![0; 5 * n] }
+        Buffers { work: vec![0; 3 * n], result: vec![0; n], breaks: vec![0; 5 * n], runs: vec![0; 3 * n] }
     }
 }

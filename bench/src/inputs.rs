@@ -22,6 +22,8 @@ pub const INPUTS: &[Input] = &[
         word[n - 1] = b'b';
         word
     }),
+    ("(dc)^k c (dc)^k", 1, |n, _| powers(b"dc", n / 4, n)),
+    ("(dc)^k c (dc)^k c (dc)^(k/6)", 1, |n, _| powers(b"dc", n * 3 / 13, n)),
     ("falling ramp", 1, |n, _| (0..n).map(|i| (254 - i * 255 / n) as u8).collect()),
     ("rising plateaus", 1, |n, _| (0..n).map(|i| (i * 64 / n) as u8).collect()),
     ("a^(n-1) b", 1, |n, _| {
@@ -40,6 +42,12 @@ pub const INPUTS: &[Input] = &[
         word
     }),
 ];
+
+/// Powers of two letters, with the second of them once more behind each: the repetitions' worst case, and its like.
+fn powers(root: &[u8; 2], exponent: usize, length: usize) -> Vec<u8> {
+    let power = [&root.repeat(exponent)[..], &root[1..]].concat();
+    power.into_iter().cycle().take(length).collect()
+}
 
 fn random(length: usize, number: usize, letters: usize) -> Vec<u8> {
     let mut random = Random::new(0x5eed_0100 + number as u64);

@@ -43,6 +43,11 @@ macro_rules! calls_of {
             black_box($of::compare_suffixes(&case.record, 0, case.end, case.starts[0], case.starts[1]).map($numbers)).ok();
         }
     };
+    (runs $of:ident) => {
+        |case, lent| {
+            black_box($of::runs(&case.record, &mut lent.runs).map(|runs| runs.len())).ok();
+        }
+    };
     (batch $of:ident, $batch:expr, $lent:expr) => {{
         let found = $of::icfl_batch(&$batch.bytes, &$batch.record_ends, &mut $lent.work, &mut $lent.result);
         black_box(found.map(|batch| count_ends(batch.iter()))).ok();
@@ -77,6 +82,8 @@ macro_rules! calls_of {
             ("`metsroeb_lyndon_table`", |case, lent| {
                 black_box($of::lyndon_table(&case.record, &mut lent.result)).ok();
             }),
+            #[cfg(has = "runs")]
+            (RUNS, calls_of!(runs $of)),
             (SUFFIXES, calls_of!(comparison $of, $numbers)),
             ("`metsroeb_factor`, the last of the strict cut", |case, _| {
                 black_box($of::factor_at(&case.record, &case.strict_ends, case.strict_ends.len() - 1)).ok();
@@ -92,6 +99,7 @@ macro_rules! calls_of {
     };
 }
 
+const RUNS: &str = "`metsroeb_runs`";
 const SUFFIXES: &str = "`metsroeb_compare`, the record with its suffix that agrees longest";
 
 const VERIFIED: &[(&str, Call)] = &calls_of!(metsroeb);
@@ -100,19 +108,21 @@ const OTHER: &[(&str, Call)] = &calls_of!(other);
 #[cfg(not(has = "common"))]
 const OTHER: &[(&str, Call)] = &calls_of!(other, |order| order);
 const BY_EIGHTS: Call = calls_of!(comparison by_eights, |found| (found.order, usize::from(found.common)));
+const RUNS_BY_EIGHTS: Call = calls_of!(runs by_eights);
 
 type Pair = (&'static str, [Call; 2]);
 
 /// What is timed on INPUTS, and what on STARTS, by name: each verified call beside the other side's; the verified cut with breaks beside the
-/// one without; the verified comparison beside the second peer's.
+/// one without; the verified comparison and repetitions beside the second peer's.
 fn pairs() -> [Vec<Pair>; 2] {
     let mut pairs: Vec<Pair> = VERIFIED.iter().zip(OTHER).map(|(of, other)| (of.0, [of.1, other.1])).collect();
     let sides_of = |wanted| pairs.iter().find(|(name, _)| *name == wanted).unwrap().1;
     let comparison = sides_of(SUFFIXES);
     let mut comparisons = vec![("`metsroeb_compare`, two starts that", comparison)];
     if cfg!(not(earlier)) {
-        let sides = ["`metsroeb_icfl_breaks`", "`metsroeb_icfl`"].map(|name| sides_of(name)[0]);
-        pairs.push(("`metsroeb_icfl_breaks` over `metsroeb_icfl`, both verified", sides));
+        let [breaks, cut, runs] = ["`metsroeb_icfl_breaks`", "`metsroeb_icfl`", RUNS].map(|name| sides_of(name)[0]);
+        pairs.push(("`metsroeb_icfl_breaks` over `metsroeb_icfl`, both verified", [breaks, cut]));
+        pairs.push(("`metsroeb_runs` beside eight bytes a step", [runs, RUNS_BY_EIGHTS]));
         let sides = [comparison[0], BY_EIGHTS];
         pairs.push(("`metsroeb_compare` beside eight bytes a step, the record with its suffix that agrees longest", sides));
         comparisons.push(("`metsroeb_compare` beside eight bytes a step, two starts that", sides));
