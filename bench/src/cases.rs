@@ -6,6 +6,8 @@ use crate::inputs::Make;
 pub struct Case {
     pub record: Vec<u8>,
     pub strict_ends: Vec<u16>,
+    /// How many entries its repetitions fill.
+    pub run_entries: usize,
     /// The starts that are compared, in the range from 0 to `end`.
     pub starts: [usize; 2],
     pub end: usize,
@@ -35,7 +37,8 @@ impl Case {
         let strict_ends = metsroeb::cfl_in(&record, &mut vec![0; n]).unwrap().to_vec();
         let agreement = |&start: &usize| metsroeb::compare_suffixes(&record, 0, n, 0, start).unwrap().common;
         let starts = [0, (1..n).rev().max_by_key(agreement).unwrap()];
-        Case { batches: [64, 256, n].map(|length| Batch::new(make, n, number, length)), strict_ends, starts, end: n, record }
+        let run_entries = 3 * metsroeb_tests::peer::runs(&record, &mut vec![0; 3 * n]).unwrap().len();
+        Case { batches: [64, 256, n].map(|length| Batch::new(make, n, number, length)), strict_ends, run_entries, starts, end: n, record }
     }
 }
 

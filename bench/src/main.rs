@@ -48,6 +48,11 @@ macro_rules! calls_of {
             black_box($of::runs(&case.record, &mut lent.runs).map(|runs| runs.len())).ok();
         }
     };
+    (counted runs $of:ident) => {
+        |case, lent| {
+            black_box($of::runs(&case.record, &mut lent.runs[..case.run_entries]).map(|runs| runs.len())).ok();
+        }
+    };
     (batch $of:ident, $batch:expr, $lent:expr) => {{
         let found = $of::icfl_batch(&$batch.bytes, &$batch.record_ends, &mut $lent.work, &mut $lent.result);
         black_box(found.map(|batch| count_ends(batch.iter()))).ok();
@@ -84,6 +89,8 @@ macro_rules! calls_of {
             }),
             #[cfg(has = "runs")]
             (RUNS, calls_of!(runs $of)),
+            #[cfg(has = "runs")]
+            (COUNTED_RUNS, calls_of!(counted runs $of)),
             (SUFFIXES, calls_of!(comparison $of, $numbers)),
             ("`metsroeb_factor`, the last of the strict cut", |case, _| {
                 black_box($of::factor_at(&case.record, &case.strict_ends, case.strict_ends.len() - 1)).ok();
@@ -99,7 +106,8 @@ macro_rules! calls_of {
     };
 }
 
-const RUNS: &str = "`metsroeb_runs`";
+const RUNS: &str = "`metsroeb_runs`, 3n result entries: one pass";
+const COUNTED_RUNS: &str = "`metsroeb_runs`, just enough result entries: counted first if fewer than 3n - 3";
 const SUFFIXES: &str = "`metsroeb_compare`, the record with its suffix that agrees longest";
 
 const VERIFIED: &[(&str, Call)] = &calls_of!(metsroeb);

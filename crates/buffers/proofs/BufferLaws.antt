@@ -1,5 +1,5 @@
 -- What stores leave in a buffer: a copy one entry further (copy-more), an entry stored from the end on (FilledFrom), and what is kept past
--- a place (kept-past, cleared-kept, cleared-twice). A fill one entry further is the kit's fill-more.
+-- a place (kept-past, written-over, cleared-kept, cleared-twice). A fill one entry further is the kit's fill-more.
 use mathlib.Core.Path.{_≡_, refl, ap, sym, _∙_}
 use mathlib.Core.List.{List, [], _∷_, _++_, append-assoc}
 use Prim.Native.Nat.{ℕ, zero, suc, _+_, _-_, _≤_, _<_, max}
@@ -7,8 +7,8 @@ use native.Mathlib.Nat.{zero-add, zero-max, max-zero, suc-max-suc}
 use native.Mathlib.Numerals.{add-one}
 use native.Mathlib.Omega.{arith}
 use lib.ListN.{length, take, drop, getD, set, replicate, length-set, drop-of-length-le}
-use lib.Seq.{paste-suc, length-take-le, take-suc, drop-cons, set-at, getD-drop, getD-append-add}
-use Rattle.buffers.specs.Buffers.{cleared}
+use lib.Seq.{paste-suc, length-take-le, take-suc, drop-cons, set-at, getD-drop, getD-append-add, drop-append-seam}
+use Rattle.buffers.specs.Buffers.{cleared, written}
 use Rattle.buffers.proofs.PartLaws.{drop-to}
 
 -- a turn of the loop that copies to the front
@@ -20,6 +20,11 @@ copy-more source buffer i l m = simp (zero-add, ← add-one) at (paste-suc buffe
 
 pub kept-past : (n m : ℕ) (xs ys : List ℕ) → n ≤ m → drop n xs ≡ drop n ys → drop m xs ≡ drop m ys
 kept-past n m xs ys l e = sym (drop-to n m xs l) ∙ ap (drop (m - n)) e ∙ drop-to n m ys l
+
+-- written over by as much or more
+pub written-over : (xs ys buffer : List ℕ) → length xs ≤ length ys → written ys (written xs buffer) ≡ written ys buffer
+written-over xs ys buffer l =
+    ap (λ (t : List ℕ). ys ++ t) (kept-past (length xs) (length ys) (written xs buffer) buffer l (drop-append-seam xs (drop (length xs) buffer)))
 
 pub cleared-kept : (n : ℕ) (xs ys : List ℕ) → drop n xs ≡ drop n ys → cleared n xs ≡ cleared n ys
 cleared-kept n xs ys e = ap (λ (t : List ℕ). replicate n 0 ++ t) e

@@ -3,3 +3,6 @@ pub mod Moving
 pub mod RankedLaws
 pub mod LongestLaws
 pub mod PlaceLaws
+pub mod VisitLaws
+pub mod WalkLaws
+pub mod RoomLaws

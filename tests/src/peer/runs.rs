@@ -63,39 +63,33 @@ fn run_at(word: &[u8], longest: &[u16], i: usize, common: impl Fn(&[u8], &[u8]) 
     Some([i - left, end, period].map(|number| number as u16))
 }
 
-/// All repetitions, stretch by stretch, in the order of their roots.
-fn each_run(record: &[u8], longest: &[u16], common: impl Fn(&[u8], &[u8]) -> usize, mut emit: impl FnMut(Run)) {
-    for_stretches(record, |from, end| {
-        let (word, longest) = (&record[from..end], &longest[from..end]);
+/// All repetitions, stretch by stretch, in the order of their roots. The table is made anew for each stretch.
+fn each_run(record: &[u8], longest: &mut [u16], common: impl Fn(&[u8], &[u8]) -> usize, mut emit: impl FnMut(Run)) {
+    let mut from = 0;
+    for word in record.split(|&letter| letter == SEPARATOR) {
+        find_longest(word, longest, &common);
         for [first, end, period] in (1..word.len()).filter_map(|i| run_at(word, longest, i, &common)) {
             emit([first + from as u16, end + from as u16, period]);
         }
-    });
-}
-
-/// First place and end of each nonempty stretch between marks.
-fn for_stretches(record: &[u8], mut with: impl FnMut(usize, usize)) {
-    let mut from = 0;
-    for stretch in record.split(|&letter| letter == SEPARATOR) {
-        let end = from + stretch.len();
-        if from < end {
-            with(from, end);
-        }
-        from = end + 1;
+        from += word.len() + 1;
     }
 }
 
-/// They are counted first, then each is put to its place among those before it, from the back.
+/// Each is put to its place among those before it, from the back. There are fewer than letters, so they are counted first only for a
+/// list that is shorter than that.
 pub fn runs(record: &[u8], runs: &mut [u16], common: impl Fn(&[u8], &[u8]) -> usize) -> Result<usize, u8> {
     check_record(record)?;
     let mut longest = [0; MOST];
-    for_stretches(record, |from, end| find_longest(&record[from..end], &mut longest[from..end], &common));
-    let mut needed = 0;
-    each_run(record, &longest, &common, |_| needed += 1);
-    let Some(list) = runs.get_mut(..3 * needed) else { return Err(4) };
-    let list = list.as_chunks_mut().0;
+    if runs.len() < 3 * (record.len() - 1) {
+        let mut needed = 0;
+        each_run(record, &mut longest, &common, |_| needed += 1);
+        if runs.len() < 3 * needed {
+            return Err(4);
+        }
+    }
+    let list = runs.as_chunks_mut().0;
     let mut count = 0;
-    each_run(record, &longest, &common, |run: Run| {
+    each_run(record, &mut longest, &common, |run: Run| {
         let mut place = count;
         while place > 0 && [list[place - 1][0], list[place - 1][2]] > [run[0], run[2]] {
             list[place] = list[place - 1];

@@ -194,3 +194,20 @@ pub found-few : (m : ℕ) (w : List ℕ) (k : ℕ) → length (foundUpTo m w k) 
 unfolding foundUpTo
 found-few m w zero = omega arith
 found-few m w (suc k) = rw length-append (omega (arith, found-few m w k, found-at-few w (suc k) (periodAt m w (suc k))))
+
+-- ---- one place more
+
+pub found-next : (m : ℕ) (w : List ℕ) (i : ℕ) → 0 < i → foundUpTo m w i ≡ foundUpTo m w (i - 1) ++ foundAt m w i
+unfolding foundUpTo
+found-next m w zero l = absurd (omega arith)
+found-next m w (suc k) l = let z : suc k - 1 ≡ k = omega arith in rw z
+
+pub found-more : (m : ℕ) (w : List ℕ) (j k : ℕ) → j ≤ k → length (foundUpTo m w j) ≤ length (foundUpTo m w k)
+unfolding foundUpTo
+found-more m w j zero l = let z : j ≡ 0 = omega arith in rw z (omega arith)
+found-more m w j (suc k) l = go (decLt j (suc k)) (λ x. found-more m w j k x)
+  where
+    go : Dec (j < suc k) → (j ≤ k → length (foundUpTo m w j) ≤ length (foundUpTo m w k))
+        → length (foundUpTo m w j) ≤ length (foundUpTo m w k ++ foundAt m w (suc k))
+    go (yes x) next = rw length-append (omega (arith, next (omega arith)))
+    go (no x) next = let z : j ≡ suc k = omega arith in rw z (omega arith)

@@ -1,8 +1,9 @@
 -- Runs put into their order one after another: each goes before the first that comes later (insertRun, sorted). The sorted list has the same runs
--- (sorted-member, member-sorted, sorted-length), is in order (sorted-in-order, sorted-rising) and may be moved (sorted-moved); where a run goes (insert-at).
+-- (sorted-member, member-sorted, sorted-length), is in order (sorted-in-order, sorted-rising) and may be moved (sorted-moved); runs put behind others
+-- (sorted-behind); where a run goes (insert-at).
 use mathlib.Core.Path.{_≡_, refl, ap, sym, subst, _∙_}
 use mathlib.Core.Logic.{_⊎_, inl, inr, ⊎-elim}
-use mathlib.Core.List.{List, [], _∷_, _++_, map, List·Memᴰ, List·Memᴰ·head, List·Memᴰ·tail, List·Memᴰ·not-nil, List·Memᴰ·cases-cons}
+use mathlib.Core.List.{List, [], _∷_, _++_, map, append-nil, List·Memᴰ, List·Memᴰ·head, List·Memᴰ·tail, List·Memᴰ·not-nil, List·Memᴰ·cases-cons}
 use mathlib.Core.Bool.{Bool, true, false, _&&_, _||_}
 use Prim.Native.Nat.{ℕ, zero, suc, _+_, _<_}
 use native.Mathlib.Omega.{arith}
@@ -10,7 +11,7 @@ use native.Mathlib.Decide.{decLt}
 use lib.ListN.{length, take, drop, getD}
 use lib.Dec.{ltb, eqb}
 use Rattle.words.specs.Runs.{Triple, Earlier, movedRun, Rising, none, more}
-use Rattle.words.specs.repetitions.RunsAre.{earlier-irrefl, earlier-trans}
+use Rattle.words.specs.repetitions.RunsAre.{earlier-irrefl, earlier-asym, earlier-trans}
 use Rattle.words.specs.orders.Decisions.{Decides, holds, fails, leb-test, eqb-test, decides-map, decides-unique, true-decides, false-decides}
 
 -- ---- which comes earlier
@@ -161,16 +162,24 @@ unfoldable pub sorted : List Triple → List Triple
 unfolding sortInto
 sorted rs = sortInto [] rs
 
-sort-more : (qs rs : List Triple) (r : Triple) → sortInto qs (rs ++ r ∷ []) ≡ insertRun r (sortInto qs rs)
+pub sort-append : (qs rs ts : List Triple) → sortInto qs (rs ++ ts) ≡ sortInto (sortInto qs rs) ts
 unfolding sortInto
-sort-more qs [] r = refl
-sort-more qs (x ∷ rs) r = sort-more (insertRun x qs) rs r
+sort-append qs [] ts = refl
+sort-append qs (r ∷ rs) ts = sort-append (insertRun r qs) rs ts
+
+pub sort-none : (qs : List Triple) → sortInto qs [] ≡ qs
+unfolding sortInto
+sort-none qs = refl
+
+pub sort-one : (qs : List Triple) (r : Triple) → sortInto qs (r ∷ []) ≡ insertRun r qs
+unfolding sortInto
+sort-one qs r = refl
 
 pub sorted-more : (rs : List Triple) (r : Triple) → sorted (rs ++ r ∷ []) ≡ insertRun r (sorted rs)
 unfolding sorted
-sorted-more rs r = sort-more [] rs r
+sorted-more rs r = sort-append [] rs (r ∷ []) ∙ sort-one (sortInto [] rs) r
 
-sort-length : (qs rs : List Triple) → length (sortInto qs rs) ≡ length qs + length rs
+pub sort-length : (qs rs : List Triple) → length (sortInto qs rs) ≡ length qs + length rs
 unfolding sortInto
 sort-length qs [] = omega arith
 sort-length qs (r ∷ rs) = sort-length (insertRun r qs) rs ∙ omega (arith, insert-length r qs)
@@ -205,7 +214,7 @@ pub member-sorted : {x : Triple} (rs : List Triple) → List·Memᴰ x rs → Li
 unfolding sorted
 member-sorted rs m = member-sort [] rs (inr m)
 
-sort-in-order : (qs rs : List Triple) → InOrder qs → InOrder (sortInto qs rs)
+pub sort-in-order : (qs rs : List Triple) → InOrder qs → InOrder (sortInto qs rs)
 unfolding sortInto
 sort-in-order qs [] o = o
 sort-in-order qs (r ∷ rs) o = sort-in-order (insertRun r qs) rs (insert-in-order r qs o)
@@ -242,6 +251,26 @@ sort-moved i qs (r ∷ rs) = ap (λ (t : List Triple). sortInto t (map (movedRun
 pub sorted-moved : (i : ℕ) (rs : List Triple) → sorted (map (movedRun i) rs) ≡ map (movedRun i) (sorted rs)
 unfolding sorted
 sorted-moved i rs = sort-moved i [] rs
+
+-- ---- behind runs that do not come later
+
+pub insert-past : (r : Triple) (ds qs : List Triple) → ((d : Triple) → List·Memᴰ d ds → ¬ Earlier r d) → insertRun r (ds ++ qs) ≡ ds ++ insertRun r qs
+insert-past r [] qs h = refl
+insert-past r (d ∷ ds) qs h =
+    insert-after r d (ds ++ qs) (h d (List·Memᴰ·head refl)) ∙ ap (λ (t : List Triple). d ∷ t) (insert-past r ds qs (λ x m. h x (List·Memᴰ·tail m)))
+
+pub sort-past : (ds qs rs : List Triple) → ((r d : Triple) → List·Memᴰ r rs → List·Memᴰ d ds → ¬ Earlier r d) → sortInto (ds ++ qs) rs ≡ ds ++ sortInto qs rs
+unfolding sortInto
+sort-past ds qs [] h = refl
+sort-past ds qs (r ∷ rs) h =
+    ap (λ (t : List Triple). sortInto t rs) (insert-past r ds qs (λ d m. h r d (List·Memᴰ·head refl) m))
+    ∙ sort-past ds (insertRun r qs) rs (λ x d m n. h x d (List·Memᴰ·tail m) n)
+
+-- where all begin earlier
+pub sorted-behind : (ds rs : List Triple) → ((r d : Triple) → List·Memᴰ r rs → List·Memᴰ d ds → d .0 < r .0) → sortInto ds rs ≡ ds ++ sorted rs
+unfolding sorted
+sorted-behind ds rs h =
+    ap (λ (t : List Triple). sortInto t rs) (sym (append-nil ds)) ∙ sort-past ds [] rs (λ r d m n. earlier-asym d r (inl (h r d m n)))
 
 -- ---- where a run goes
 

@@ -18,7 +18,7 @@ use mathlib.Core.List.{
 }
 use Prim.Native.Nat.{ℕ, zero, suc, _<_}
 use native.Mathlib.Omega.{arith}
-use lib.ListN.{getD, drop}
+use lib.ListN.{length, getD, drop}
 use Rattle.words.specs.orders.Decisions.{Decides, holds, fails, eqb-test}
 use Rattle.words.specs.Separated.{separator, mark, isMarked, Unmarked, UpToSeparator}
 
@@ -43,6 +43,10 @@ pub unmarked-at : (v : List ℕ) → Unmarked v → (i : ℕ) → ¬ (getD v i 0
 unmarked-at [] u i = λ e. absurd (omega (arith, e))
 unmarked-at (a ∷ v) u zero = unmarked-head u
 unmarked-at (a ∷ v) u (suc i) = unmarked-at v (unmarked-tail u) i
+
+pub unmarked-letters : (v : List ℕ) → ((i : ℕ) → i < length v → ¬ (getD v i 0 ≡ separator)) → Unmarked v
+unmarked-letters [] h = unmarked-empty
+unmarked-letters (a ∷ v) h = unmarked-cons (h 0 (omega arith)) (unmarked-letters v (λ i l. h (suc i) (omega arith)))
 
 -- a letter of an unmarked word of bytes
 pub unmarked-below : (v : List ℕ) → Unmarked v → UpToSeparator v → (i : ℕ) → getD v i 0 < separator
