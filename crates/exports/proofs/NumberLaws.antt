@@ -1,5 +1,5 @@
--- The calls' promises as numbers: counts (filled-numbers, and that they fit: icfl-small, cfl-in-small, table-small), the cut with breaks (breaks-numbers,
--- breaks-small), the test (test-numbers, test-holds, test-small), the comparison (comparison-numbers, comparison-small).
+-- The calls' promises as numbers: counts (filled-numbers, and that they fit: icfl-small, cfl-in-small, table-small, runs-small), the cut with breaks
+-- (breaks-numbers, breaks-small), the test (test-numbers, test-holds, test-small), the comparison (comparison-numbers, comparison-small).
 use mathlib.Core.Path.{_≡_, refl, ap, _∙_}
 use mathlib.Core.Bool.{true, false}
 use mathlib.Core.List.{List, [], _∷_, _++_}
@@ -19,6 +19,7 @@ use Rattle.words.specs.orders.CommonWithin.{common-within-short}
 use Rattle.words.specs.places.EndsRise.{rises-few}
 use Rattle.words.specs.stretches.Factors.{separated-icfl-ends-rise, separated-cfl-in-ends-rise}
 use Rattle.words.specs.stretches.StretchBreaks.{separated-breaks-few}
+use Rattle.words.specs.stretches.SeparatedRuns.{separated-runs-few}
 use Rattle.checks.specs.Lines.{Line, tried, decided, recordLines}
 use Rattle.checks.specs.Answers.{numberOf, Filled}
 use Rattle.checks.specs.declared.Checked.{Checked}
@@ -35,6 +36,7 @@ use Rattle.icfl.specs.IcflBreaks.{breaksLines, breaksChecked, BreaksDone}
 use Rattle.icfl.specs.declared.with_breaks.CountedBreaks.{CountedBreaks}
 use Rattle.cfl.specs.CflIn.{CflInDone}
 use Rattle.table.specs.Table.{Tabled}
+use Rattle.runs.specs.Runs.{RunsDone}
 use Rattle.compare.specs.declared.suffixes.Comparison.{Comparison}
 use Rattle.compare.specs.Compare.{comparisonChecked, signOf, commonOf, compareLines, orderOf, Compared}
 use Rattle.exports.specs.declared.Reply.{Reply}
@@ -69,6 +71,9 @@ cfl-in-small w ends ends′ r f = small w _ (omega (arith, rises-few (separated-
 
 pub table-small : (w out out′ : List ℕ) (r : Counted) → Tabled w out r out′ → Small r
 table-small w out out′ r f = small w _ (omega arith) f
+
+pub runs-small : (w out out′ : List ℕ) (r : Counted) → RunsDone w out r out′ → Small r
+runs-small w out out′ r f = small w _ (separated-runs-few w) f
 
 -- ---- the cut with breaks
 

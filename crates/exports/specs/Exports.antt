@@ -9,6 +9,7 @@ use lib.IntN.{ℤ, pos}
 use Rattle.words.specs.Words.{isInverseLyndon, sign, commonWithin}
 use Rattle.words.specs.Factorizations.{failingLength, prefixLength, borderLength}
 use Rattle.words.specs.Separated.{separatedIcflEnds, separatedBreaks, separatedCflInEnds, separatedTable}
+use Rattle.words.specs.Runs.{separatedRuns}
 use Rattle.buffers.specs.Buffers.{cleared, written}
 use Rattle.checks.specs.Lines.{Line, tried, _unless_then_}
 use Rattle.checks.specs.Answers.{numberOf}
@@ -21,6 +22,7 @@ use Rattle.batch.specs.Batch.{placesOf, batchOf, batchLines}
 use Rattle.batch.specs.declared.Place.{Place}
 use Rattle.cfl.specs.CflIn.{cflInLines}
 use Rattle.table.specs.Table.{tableLines}
+use Rattle.runs.specs.Runs.{runsLines, entriesOf as runsEntriesOf}
 use Rattle.compare.specs.Compare.{compareLines}
 use Rattle.reading.specs.Factor.{factorLines, factorFrom}
 use Rattle.exports.specs.declared.Reply.{Reply}
@@ -77,6 +79,10 @@ CflInNumbers w ends r count ends′ = FilledNumbers (cflInLines w (length ends))
 
 abbrev pub TableNumbers : List ℕ → List ℕ → ℕ → ℕ → List ℕ → Type 0
 TableNumbers w out r count out′ = FilledNumbers (tableLines w (length out)) (length w) (separatedTable w) out r count out′
+
+abbrev pub RunsNumbers : List ℕ → List ℕ → ℕ → ℕ → List ℕ → Type 0
+RunsNumbers w out r count out′ =
+    FilledNumbers (runsLines w (length out)) (length (separatedRuns w)) (runsEntriesOf (separatedRuns w)) out r count out′
 
 pub record ComparisonNumbers (w : List ℕ) (first end start other r : ℕ) (s : ℤ) (common : ℕ) : Type 0 where
   pub refusal : r ≡ numberOf (tried (compareLines w first end start other))

@@ -9,7 +9,8 @@ use icfl::CountedBreaks;
 use summary::Summary;
 ghost use mathlib.Core.Path.{_≡_};
 ghost use Rattle.summary.specs.Summary.{Summarized};
-ghost use Rattle.exports.specs.Exports.{Small, replyOf, TestNumbers, IcflNumbers, BreaksNumbers, BatchNumbers, CflInNumbers, TableNumbers, ComparisonNumbers, FactorNumbers};
+ghost use Rattle.exports.specs.Exports.{Small, replyOf, TestNumbers, IcflNumbers, BreaksNumbers, BatchNumbers, CflInNumbers};
+ghost use Rattle.exports.specs.Exports.{TableNumbers, RunsNumbers, ComparisonNumbers, FactorNumbers};
 
 /// A count or a refusal, as two numbers.
 #[repr(C)]
@@ -159,6 +160,15 @@ pub extern "C" fn metsroeb_lyndon_table(word: &[u8], lengths: &mut [u16], count:
     let starts = numbers_of(table::lyndon_table(word, lengths));
     *count = starts.count;
     starts.refusal
+}
+
+#[no_mangle]
+pub extern "C" fn metsroeb_runs(word: &[u8], runs: &mut [u16], count: &mut u16) -> u8
+    ensures { λ r. ⌜ RunsNumbers (now (word .entry)) (now (runs .entry)) r (now (count .exit)) (now (runs .exit)) ⌝ }
+{
+    let listed = numbers_of(runs::runs(word, runs));
+    *count = listed.count;
+    listed.refusal
 }
 
 #[no_mangle]
