@@ -15,7 +15,8 @@ use Rattle.batch.specs.Batch.{icflAnswer, icflResult, icflWork, recordsFrom, Pr
 use Rattle.batch.specs.BatchStatements.{packedEnds}
 use Rattle.batch.proofs.FoldLaws.{left, added, batch-answers, Every, Fits, linesOf, fits-by, folded-ends}
 use Rattle.batch.proofs.BatchLaws.{batch-left, no-fours}
-use Rattle.demands.specs.Demands.{Calls, Singly, none, next, CardAnswered}
+use Rattle.demands.specs.Calls.{Calls}
+use Rattle.demands.specs.Demands.{Singly, none, next, CardAnswered}
 use Rattle.demands.specs.Meets.{Meets, Total}
 
 -- a part of n entries behind the first u, and what follows it

@@ -31,7 +31,8 @@ use Rattle.icfl.specs.Icfl.{icflAdmission, icflLines, workAfter}
 use Rattle.icfl.specs.declared.with_breaks.CountedBreaks.{CountedBreaks}
 use Rattle.compare.specs.declared.suffixes.Comparison.{Comparison}
 use Rattle.compare.specs.Compare.{signOf, commonOf}
-use Rattle.demands.specs.Demands.{Calls, library, Demand1, Demand2, Demand3}
+use Rattle.demands.specs.Calls.{Calls, library}
+use Rattle.demands.specs.Demands.{Demand1, Demand2, Demand3}
 use Rattle.demands.specs.Meets.{Meets}
 
 abbrev pub Cut : Type 1

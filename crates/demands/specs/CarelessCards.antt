@@ -13,7 +13,8 @@ use Rattle.checks.proofs.LineLaws.{not-both}
 use Rattle.batch.specs.declared.Batch.{Batch}
 use Rattle.batch.specs.declared.Place.{Place}
 use Rattle.batch.specs.Batch.{entriesUsed, recordsFrom, cutRecord, cutRecords, batchOf, place, placesOf, batchWith}
-use Rattle.demands.specs.Demands.{Calls, library, Demand1, Singly, none, next, Demands}
+use Rattle.demands.specs.Calls.{Calls, library}
+use Rattle.demands.specs.Demands.{Demand1, Singly, none, next, Demands}
 
 abbrev Card : Type 1
 Card = (bytes es work ends : List ℕ) (r : Batch) (work′ ends′ : List ℕ) → Type 0

@@ -20,7 +20,8 @@ use Rattle.extension.specs.Extension.{extensionOf}
 use Rattle.icfl.specs.Icfl.{icflAdmission}
 use Rattle.compare.specs.declared.suffixes.Comparison.{Comparison}
 use Rattle.compare.specs.Compare.{signOf}
-use Rattle.demands.specs.Demands.{Calls, library, Demand1, Demand2}
+use Rattle.demands.specs.Calls.{Calls, library}
+use Rattle.demands.specs.Demands.{Demand1, Demand2}
 use Rattle.demands.specs.Meets.{Meets}
 use Rattle.demands.specs.Careless.{cutter, CutsAt, other-ends, Answering, aboveZero}
 

@@ -19,7 +19,8 @@ use Rattle.checks.proofs.LineLaws.{filled-front}
 use Rattle.compare.specs.declared.suffixes.Comparison.{Comparison}
 use Rattle.compare.specs.Compare.{signOf, commonOf, orderOf}
 use Rattle.compare.proofs.ComparisonLaws.{Within, within-passes}
-use Rattle.demands.specs.Demands.{Calls, Inside, Demand3, Runs}
+use Rattle.demands.specs.Calls.{Calls}
+use Rattle.demands.specs.Demands.{Inside, Demand3, Runs}
 use Rattle.demands.specs.Meets.{Meets}
 
 module _ (c : Calls) (m : Meets c) (w es ss : List ℕ) (compare : ℕ → ℕ → ℕ → ℕ → Comparison) (r : Runs c w es ss compare) where

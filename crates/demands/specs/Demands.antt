@@ -2,14 +2,12 @@
 -- demands hold of both are the theorems library-demands and exported-demands (DemandsHold). Each field carries the customer's sentence. That every call ends,
 -- and without undefined behaviour, is what the proof of its function says.
 use mathlib.Core.Path.{_≡_}
-use mathlib.Core.Bool.{true, false}
 use mathlib.Core.Logic.{_⊎_}
 use mathlib.Core.List.{List, [], _∷_, _++_, map, List·Memᴰ}
 use Prim.Native.Nat.{ℕ, _+_, _-_, _*_, _≤_, _<_, min, max}
 use lib.ListN.{length, take, drop, getD, replicate}
 use lib.Seq.{slice}
-use lib.IntN.{ℤ, pos, negsuc}
-use lib.Dec.{eqb}
+use lib.IntN.{pos, negsuc}
 use Rattle.words.specs.Words.{mostLetters, _≪_, _⊑_, _<ₗ_, InverseLyndon, AntiLyndon}
 use Rattle.words.specs.Factorizations.{icfl, icflBreaks, breaksFrom, cflIn, lyndonTable, joinFirst, failingLength, prefixLength, borderLength}
 use Rattle.words.specs.declared.Break.{Break}
@@ -30,87 +28,28 @@ use Rattle.words.specs.Separated.{
   separatedBreaks,
 }
 use Rattle.words.specs.SeparatedStatements.{UnlessMark, SeparatedOf, moved, endsOver, keptEndsOf, UnmarkedPieces}
-use Rattle.checks.specs.Lines.{Line, tried, decided}
+use Rattle.checks.specs.Lines.{Line, tried}
 use Rattle.checks.specs.Answers.{numbered, countChecked}
 use Rattle.checks.specs.declared.Checked.{Checked}
 use Rattle.checks.specs.declared.Checked.the-variants.{Passed, Refused}
 use Rattle.checks.specs.declared.Counted.{Counted}
 use Rattle.extension.specs.declared.Extension.{Extension}
-use Rattle.extension.specs.Extension.{testChecked, extensionLines, ExtensionFound}
+use Rattle.extension.specs.Extension.{testChecked, extensionLines}
 use Rattle.fates.specs.Entries.{entriesOf}
 use Rattle.icfl.specs.declared.with_breaks.CountedBreaks.{CountedBreaks}
-use Rattle.icfl.specs.Icfl.{icflLines, IcflDone}
-use Rattle.icfl.specs.IcflBreaks.{breaksLines, breaksChecked, BreaksDone}
+use Rattle.icfl.specs.Icfl.{icflLines}
+use Rattle.icfl.specs.IcflBreaks.{breaksLines, breaksChecked}
 use Rattle.batch.specs.declared.Batch.{Batch}
-use Rattle.batch.specs.Batch.{recordsFrom, entriesUsed, place, placesOf, batchLines, BatchDone}
+use Rattle.batch.specs.Batch.{recordsFrom, entriesUsed, placesOf, batchLines}
 use Rattle.batch.specs.BatchStatements.{Left}
-use Rattle.cfl.specs.CflIn.{cflInLines, CflInDone}
-use Rattle.table.specs.Table.{tableLines, Tabled}
+use Rattle.cfl.specs.CflIn.{cflInLines}
+use Rattle.table.specs.Table.{tableLines}
 use Rattle.compare.specs.declared.suffixes.Comparison.{Comparison}
-use Rattle.compare.specs.Compare.{comparisonChecked, signOf, commonOf, compareLines, Compared}
-use Rattle.reading.specs.Factor.{factorLines, FactorAt}
+use Rattle.compare.specs.Compare.{comparisonChecked, signOf, commonOf, compareLines}
+use Rattle.reading.specs.Factor.{factorLines}
 use Rattle.summary.specs.declared.Summary.{Summary}
-use Rattle.summary.specs.Summary.{summaryLines, Summarized}
-use Rattle.exports.specs.declared.Replies.{Replies}
-use Rattle.exports.specs.Exports.{TestNumbers, IcflNumbers, BreaksNumbers, BatchNumbers, CflInNumbers, TableNumbers, ComparisonNumbers, FactorNumbers}
-
--- ---- the calls: which answers each may give, with which contents of the lent buffers afterwards
-
-pub record Calls : Type 1 where
-  pub Test : (w work : List ℕ) (r : Extension) (work′ : List ℕ) → Type 0
-  pub PieceCut : (w work ends : List ℕ) (r : Counted) (work′ ends′ : List ℕ) → Type 0
-  pub ReasonedCut : (w work ends breaks : List ℕ) (r : CountedBreaks) (work′ ends′ breaks′ : List ℕ) → Type 0
-  pub CardCut : (bytes es work ends : List ℕ) (r : Batch) (work′ ends′ : List ℕ) → Type 0
-  pub StrictCut : (w ends : List ℕ) (r : Counted) (ends′ : List ℕ) → Type 0
-  pub StartTable : (w out : List ℕ) (r : Counted) (out′ : List ℕ) → Type 0
-  pub Comparing : (w : List ℕ) (first end start other : ℕ) (r : Comparison) → Type 0
-  pub Reading : (w es : List ℕ) (k : ℕ) (part : List ℕ) (number : ℕ) → Type 0
-  pub Summing : (w es : List ℕ) (r : Summary) → Type 0
-
--- the library's calls, by their promises
-abbrev pub library : Calls
-library = record {
-  Test = ExtensionFound;
-  PieceCut = IcflDone;
-  ReasonedCut = BreaksDone;
-  CardCut = BatchDone;
-  StrictCut = CflInDone;
-  StartTable = Tabled;
-  Comparing = Compared;
-  Reading = FactorAt;
-  Summing = Summarized;
-}
-
--- what the numbers of an exported function stand for: a refusal's number, 0 for a result, and the result's; L is 0 for an inverse Lyndon word
-abbrev pub verdictBy : (number failing prefix border : ℕ) → Extension
-verdictBy number failing prefix border =
-    decided (numbered number) (elim (eqb failing 0) [ true ↦ Extension.InverseLyndon | false ↦ Extension.Failing failing prefix border ]) Extension.Refused
-
-abbrev pub countBy : (number count : ℕ) → Counted
-countBy number count = decided (numbered number) (Counted.Count count) Counted.Refused
-
-abbrev pub countsBy : (number factors breaks : ℕ) → CountedBreaks
-countsBy number factors breaks = decided (numbered number) (CountedBreaks.Counts factors breaks) CountedBreaks.Refused
-
-abbrev pub batchBy : Replies → Batch
-batchBy x = record { refusal = x .refusal; places = map (λ y. place (countBy (y .refusal) (y .count))) (x .replies) }
-
-abbrev pub comparisonBy : (number : ℕ) (sign : ℤ) (common : ℕ) → Comparison
-comparisonBy number sign common = decided (numbered number) (Comparison.Order sign common) Comparison.Refused
-
--- the exported functions, by their promises in numbers
-abbrev pub exported : Calls
-exported = record {
-  Test = λ w work r work′. (e l p b : ℕ) × (r ≡ verdictBy e l p b) × TestNumbers w work e l p b work′;
-  PieceCut = λ w work ends r work′ ends′. (e n : ℕ) × (r ≡ countBy e n) × IcflNumbers w work ends e n work′ ends′;
-  ReasonedCut = λ w work ends breaks r work′ ends′ breaks′. (e n k : ℕ) × (r ≡ countsBy e n k) × BreaksNumbers w work ends breaks e n k work′ ends′ breaks′;
-  CardCut = λ bytes es work ends r work′ ends′. (x : Replies) × (r ≡ batchBy x) × BatchNumbers bytes es work ends x work′ ends′;
-  StrictCut = λ w ends r ends′. (e n : ℕ) × (r ≡ countBy e n) × CflInNumbers w ends e n ends′;
-  StartTable = λ w out r out′. (e n : ℕ) × (r ≡ countBy e n) × TableNumbers w out e n out′;
-  Comparing = λ w first end start other r. (e : ℕ) × (s : ℤ) × (n : ℕ) × (r ≡ comparisonBy e s n) × ComparisonNumbers w first end start other e s n;
-  Reading = λ w es k part number. (i j : ℕ) × (part ≡ slice i j w) × FactorNumbers w es k number i j;
-  Summing = Summarized;
-}
+use Rattle.summary.specs.Summary.{summaryLines}
+use Rattle.demands.specs.Calls.{Calls}
 
 -- ---- demand 1: "The answer to every call, for every input, is a result or one of eight numbered refusals; .. and paper 01 fixes the condition, the order and
 -- every buffer for each refusal." Request 103: "Demand 1's eight refusals grow by each number named from here on": 9, and 10 of request 105.

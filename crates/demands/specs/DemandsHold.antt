@@ -48,7 +48,8 @@ use Rattle.batch.specs.Batch.{batchOf, batchWith, batchLines, BatchDone}
 use Rattle.compare.specs.declared.suffixes.Comparison.{Comparison}
 use Rattle.compare.specs.Compare.{comparisonChecked, compareLines, orderOf}
 use Rattle.summary.specs.Summary.{summaryLines, summaryOf, emptySummary}
-use Rattle.demands.specs.Demands.{Calls, library, exported, Answers, Untouched, UntouchedBut4, Demand1, Gave, GaveBoth, Published, Demand2, Demands}
+use Rattle.demands.specs.Calls.{Calls, library, exported}
+use Rattle.demands.specs.Demands.{Answers, Untouched, UntouchedBut4, Demand1, Gave, GaveBoth, Published, Demand2, Demands}
 use Rattle.demands.specs.Meets.{Meets, Total, library-meets, library-total, exported-meets, exported-total}
 use Rattle.demands.specs.Demand3Holds.{demand-3}
 use Rattle.demands.specs.RunsExist.{runs-exist}

@@ -42,7 +42,7 @@ use Rattle.summary.specs.Summary.{Summarized}
 use Rattle.exports.specs.declared.Reply.{Reply}
 use Rattle.exports.specs.declared.Replies.{Replies}
 use Rattle.exports.specs.Exports.{ifFailing, TestNumbers, FilledNumbers, BreaksNumbers, replyOf, repliesOf, repliesWith, BatchNumbers, ComparisonNumbers, FactorNumbers}
-use Rattle.demands.specs.Demands.{Calls, library, exported, verdictBy, countBy, countsBy, batchBy, comparisonBy}
+use Rattle.demands.specs.Calls.{Calls, library, exported, verdictBy, countBy, countsBy, batchBy, comparisonBy}
 
 pub record Meets (c : Calls) : Type 0 where
   pub test : (w work : List ℕ) (r : Extension) (work′ : List ℕ) → c .Test w work r work′ → ExtensionFound w work r work′

@@ -17,7 +17,8 @@ use Rattle.checks.proofs.LineLaws.{all-pass}
 use Rattle.icfl.specs.Icfl.{icflLines}
 use Rattle.cfl.specs.CflIn.{cflInLines}
 use Rattle.compare.specs.declared.suffixes.Comparison.{Comparison}
-use Rattle.demands.specs.Demands.{Calls, Runs}
+use Rattle.demands.specs.Calls.{Calls}
+use Rattle.demands.specs.Demands.{Runs}
 use Rattle.demands.specs.Meets.{Meets, Total}
 
 module _ (w : List ℕ) (s : 1 ≤ length w) (l : length w ≤ mostLetters) where
