@@ -19,13 +19,24 @@ use Rattle.batch.specs.declared.Batch.{Batch}
 use Rattle.batch.specs.Batch.{place, BatchDone}
 use Rattle.cfl.specs.CflIn.{CflInDone}
 use Rattle.table.specs.Table.{Tabled}
+use Rattle.runs.specs.Runs.{RunsDone}
 use Rattle.compare.specs.declared.suffixes.Comparison.{Comparison}
 use Rattle.compare.specs.Compare.{Compared}
 use Rattle.reading.specs.Factor.{FactorAt}
 use Rattle.summary.specs.declared.Summary.{Summary}
 use Rattle.summary.specs.Summary.{Summarized}
 use Rattle.exports.specs.declared.Replies.{Replies}
-use Rattle.exports.specs.Exports.{TestNumbers, IcflNumbers, BreaksNumbers, BatchNumbers, CflInNumbers, TableNumbers, ComparisonNumbers, FactorNumbers}
+use Rattle.exports.specs.Exports.{
+  TestNumbers,
+  IcflNumbers,
+  BreaksNumbers,
+  BatchNumbers,
+  CflInNumbers,
+  TableNumbers,
+  RunsNumbers,
+  ComparisonNumbers,
+  FactorNumbers,
+}
 
 -- ---- the calls: which answers each may give, with which contents of the lent buffers afterwards
 
@@ -36,6 +47,7 @@ pub record Calls : Type 1 where
   pub CardCut : (bytes es work ends : List ℕ) (r : Batch) (work′ ends′ : List ℕ) → Type 0
   pub StrictCut : (w ends : List ℕ) (r : Counted) (ends′ : List ℕ) → Type 0
   pub StartTable : (w out : List ℕ) (r : Counted) (out′ : List ℕ) → Type 0
+  pub Repetitions : (w out : List ℕ) (r : Counted) (out′ : List ℕ) → Type 0
   pub Comparing : (w : List ℕ) (first end start other : ℕ) (r : Comparison) → Type 0
   pub Reading : (w es : List ℕ) (k : ℕ) (part : List ℕ) (number : ℕ) → Type 0
   pub Summing : (w es : List ℕ) (r : Summary) → Type 0
@@ -49,6 +61,7 @@ library = record {
   CardCut = BatchDone;
   StrictCut = CflInDone;
   StartTable = Tabled;
+  Repetitions = RunsDone;
   Comparing = Compared;
   Reading = FactorAt;
   Summing = Summarized;
@@ -80,6 +93,7 @@ exported = record {
   CardCut = λ bytes es work ends r work′ ends′. (x : Replies) × (r ≡ batchBy x) × BatchNumbers bytes es work ends x work′ ends′;
   StrictCut = λ w ends r ends′. (e n : ℕ) × (r ≡ countBy e n) × CflInNumbers w ends e n ends′;
   StartTable = λ w out r out′. (e n : ℕ) × (r ≡ countBy e n) × TableNumbers w out e n out′;
+  Repetitions = λ w out r out′. (e n : ℕ) × (r ≡ countBy e n) × RunsNumbers w out e n out′;
   Comparing = λ w first end start other r. (e : ℕ) × (s : ℤ) × (n : ℕ) × (r ≡ comparisonBy e s n) × ComparisonNumbers w first end start other e s n;
   Reading = λ w es k part number. (i j : ℕ) × (part ≡ slice i j w) × FactorNumbers w es k number i j;
   Summing = Summarized;

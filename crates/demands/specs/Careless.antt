@@ -50,6 +50,7 @@ cutters cut reasoned = record {
   CardCut = library .CardCut;
   StrictCut = library .StrictCut;
   StartTable = library .StartTable;
+  Repetitions = library .Repetitions;
   Comparing = library .Comparing;
   Reading = library .Reading;
   Summing = library .Summing;

@@ -28,6 +28,7 @@ cards card = record {
   CardCut = card;
   StrictCut = library .StrictCut;
   StartTable = library .StartTable;
+  Repetitions = library .Repetitions;
   Comparing = library .Comparing;
   Reading = library .Reading;
   Summing = library .Summing;

@@ -59,6 +59,7 @@ tester lines = record {
   CardCut = library .CardCut;
   StrictCut = library .StrictCut;
   StartTable = library .StartTable;
+  Repetitions = library .Repetitions;
   Comparing = library .Comparing;
   Reading = library .Reading;
   Summing = library .Summing;

@@ -28,6 +28,8 @@ use Rattle.words.specs.Separated.{
   separatedBreaks,
 }
 use Rattle.words.specs.SeparatedStatements.{UnlessMark, SeparatedOf, moved, endsOver, keptEndsOf, UnmarkedPieces}
+use Rattle.words.specs.Runs.{Triple, Earlier, IsSeparatedRun, Rising}
+use Rattle.buffers.specs.Buffers.{written}
 use Rattle.checks.specs.Lines.{Line, tried}
 use Rattle.checks.specs.Answers.{numbered, countChecked}
 use Rattle.checks.specs.declared.Checked.{Checked}
@@ -44,6 +46,7 @@ use Rattle.batch.specs.Batch.{recordsFrom, entriesUsed, placesOf, batchLines}
 use Rattle.batch.specs.BatchStatements.{Left}
 use Rattle.cfl.specs.CflIn.{cflInLines}
 use Rattle.table.specs.Table.{tableLines}
+use Rattle.runs.specs.Runs.{runsLines, entriesOf as runsEntriesOf}
 use Rattle.compare.specs.declared.suffixes.Comparison.{Comparison}
 use Rattle.compare.specs.Compare.{comparisonChecked, signOf, commonOf, compareLines}
 use Rattle.reading.specs.Factor.{factorLines}
@@ -89,6 +92,9 @@ pub record Demand1 (c : Calls) : Type 0 where
       → Answers (1 ∷ 2 ∷ 4 ∷ []) (cflInLines w (length ends)) (countChecked r) × Untouched (countChecked r) ends ends′
   pub startTable : (w out out′ : List ℕ) (r : Counted) → c .StartTable w out r out′
       → Answers (1 ∷ 2 ∷ 4 ∷ []) (tableLines w (length out)) (countChecked r) × Untouched (countChecked r) out out′
+  -- request 107: "no work buffer is lent, and a short list buffer gets 4"
+  pub repetitions : (w out out′ : List ℕ) (r : Counted) → c .Repetitions w out r out′
+      → Answers (1 ∷ 2 ∷ 4 ∷ []) (runsLines w (length out)) (countChecked r) × Untouched (countChecked r) out out′
   pub comparison : (w : List ℕ) (first end start other : ℕ) (r : Comparison) → c .Comparing w first end start other r
       → Answers (1 ∷ 2 ∷ 5 ∷ 6 ∷ []) (compareLines w first end start other) (comparisonChecked r)
   pub reader : (w es : List ℕ) (k : ℕ) (part : List ℕ) (number : ℕ) → c .Reading w es k part number
@@ -113,6 +119,22 @@ pub record CardAnswered (c : Calls) (bytes es work ends : List ℕ) (r : Batch) 
   pub left : Left (recordsFrom 0 es bytes) answers work ends work′ ends′
   -- as many entries as bytes are enough
   pub enough : length bytes ≤ length ends → (a : Counted) → List·Memᴰ a answers → ¬ (a ≡ Counted.Refused 4)
+
+-- ---- request 107, the answer for a record w that is not refused
+
+pub record RepetitionsListed (w out : List ℕ) (r : Counted) (out′ : List ℕ) : Type 0 where
+  pub listed : List Triple
+  -- "List every maximal repetition: first place, end and period. .. Marks belong to none and end their neighbours."
+  pub sound : (t : Triple) → List·Memᴰ t listed → IsSeparatedRun w t
+  pub complete : (t : Triple) → IsSeparatedRun w t → List·Memᴰ t listed
+  -- "Each is listed once, by first place and then by period."
+  pub inOrder : Rising Earlier listed
+  -- "a record always has fewer of them than bytes, as the published "Runs" theorem says"
+  pub fewer : length listed < length w
+  -- "The call answers with the number of repetitions"
+  pub count : r ≡ Counted.Count (length listed)
+  -- "Each fills three 16-bit entries in that order, from entry 0, and what a result buffer holds past the answer stays"
+  pub entries : out′ ≡ written (runsEntriesOf listed) out
 
 -- ---- demand 2, for a record w
 
@@ -222,7 +244,7 @@ pub record Runs (c : Calls) (w es ss : List ℕ) (compare : ℕ → ℕ → ℕ 
   pub strictCut : (ends ends′ : List ℕ) × (n : ℕ) × c .StrictCut w ends (Counted.Count n) ends′ × (ss ≡ take n ends′)
   pub comparison : (first end start other : ℕ) → c .Comparing w first end start other (compare first end start other)
 
--- ---- all three; for every record there is what the third speaks of; and the card's answers
+-- ---- all three; for every record there is what the third speaks of; the card's answers; and the repetitions
 
 pub record Demands (c : Calls) : Type 0 where
   pub first : Demand1 c
@@ -231,3 +253,4 @@ pub record Demands (c : Calls) : Type 0 where
   pub given : (w : List ℕ) → 1 ≤ length w → length w ≤ mostLetters → UpToSeparator w → (es ss : List ℕ) × (compare : ℕ → ℕ → ℕ → ℕ → Comparison) × Runs c w es ss compare
   pub card : (bytes es work ends work′ ends′ : List ℕ) (r : Batch) → c .CardCut bytes es work ends r work′ ends′ → numbered (r .refusal) ≡ Passed
       → CardAnswered c bytes es work ends r work′ ends′
+  pub repetitions : (w out out′ : List ℕ) (r : Counted) → c .Repetitions w out r out′ → countChecked r ≡ Passed → RepetitionsListed w out r out′

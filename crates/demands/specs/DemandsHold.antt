@@ -54,6 +54,7 @@ use Rattle.demands.specs.Meets.{Meets, Total, library-meets, library-tot
 use Rattle.demands.specs.Demand3Holds.{demand-3}
 use Rattle.demands.specs.RunsExist.{runs-exist}
 use Rattle.demands.specs.CardHolds.{card-answered}
+use Rattle.demands.specs.RepetitionsHold.{repetitions-listed}
 
 -- ---- demand 1
 
@@ -147,6 +148,9 @@ module _ (c : Calls) (m : Meets c) where
         (answers _ _ (filled-says f) refl refl, untouched _ _ _ (filled-says f) (f .result));
     startTable = λ w out out′ r h.
         let f = m .startTable w out r out′ h in
+        (answers _ _ (filled-says f) refl refl, untouched _ _ _ (filled-says f) (f .result));
+    repetitions = λ w out out′ r h.
+        let f = m .repetitions w out r out′ h in
         (answers _ _ (filled-says f) refl refl, untouched _ _ _ (filled-says f) (f .result));
     comparison = λ w first end start other r h.
         let result = orderOf w first end start other in
@@ -251,6 +255,9 @@ demands c m t = record {
   card = λ bytes es work ends work′ ends′ r h e.
       let f = m .card bytes es work ends r work′ ends′ h in
       card-answered c m t bytes es work ends work′ ends′ r f (sym (card-says f) ∙ e);
+  repetitions = λ w out out′ r h e.
+      let f = m .repetitions w out r out′ h in
+      repetitions-listed w out out′ r f (sym (filled-says f) ∙ e);
 }
 
 pub library-demands : Demands library

@@ -34,6 +34,7 @@ use Rattle.batch.specs.Batch.{icflAnswer, recordsFrom, uncut, batchOf, place, b
 use Rattle.batch.proofs.FoldLaws.{batch-answers, Every, every-added}
 use Rattle.cfl.specs.CflIn.{CflInDone}
 use Rattle.table.specs.Table.{Tabled}
+use Rattle.runs.specs.Runs.{RunsDone}
 use Rattle.compare.specs.declared.suffixes.Comparison.{Comparison}
 use Rattle.compare.specs.Compare.{compareLines, orderOf, Compared}
 use Rattle.reading.specs.Factor.{factorLines, factorFrom, FactorAt}
@@ -53,6 +54,7 @@ pub record Meets (c : Calls) : Type 0 where
       → BatchDone bytes es work ends r work′ ends′
   pub strictCut : (w ends : List ℕ) (r : Counted) (ends′ : List ℕ) → c .StrictCut w ends r ends′ → CflInDone w ends r ends′
   pub startTable : (w out : List ℕ) (r : Counted) (out′ : List ℕ) → c .StartTable w out r out′ → Tabled w out r out′
+  pub repetitions : (w out : List ℕ) (r : Counted) (out′ : List ℕ) → c .Repetitions w out r out′ → RunsDone w out r out′
   pub comparison : (w : List ℕ) (first end start other : ℕ) (r : Comparison) → c .Comparing w first end start other r → Compared w first end start other r
   pub reader : (w es : List ℕ) (k : ℕ) (part : List ℕ) (number : ℕ) → c .Reading w es k part number → FactorAt w es k part number
   pub summary : (w es : List ℕ) (r : Summary) → c .Summing w es r → Summarized w es r
@@ -73,6 +75,7 @@ library-meets = record {
   card = λ bytes es work ends r work′ ends′ h. h;
   strictCut = λ w ends r ends′ h. h;
   startTable = λ w out r out′ h. h;
+  repetitions = λ w out r out′ h. h;
   comparison = λ w first end start other r h. h;
   reader = λ w es k part number h. h;
   summary = λ w es r h. h;
@@ -208,6 +211,7 @@ exported-meets = record {
   card = λ bytes es work ends r work′ ends′ h. batch-by bytes es work ends (h .2) (h .1);
   strictCut = λ w ends r ends′ h. filled-by _ refl (h .3) (h .2);
   startTable = λ w out r out′ h. filled-by _ refl (h .3) (h .2);
+  repetitions = λ w out r out′ h. filled-by _ refl (h .3) (h .2);
   comparison = λ w first end start other r h. order-by w first end start other (h .4) (h .3);
   reader = λ w es k part number h. part-by w es k (h .3) (h .2);
   summary = λ w es r h. h;
