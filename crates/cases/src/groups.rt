@@ -1,7 +1,7 @@
 //! The groups of records, and the calls that are made on each.
 use naive::BREAK_ENTRIES;
 use naive::Call;
-use naive::ENTRIES;
+use naive::RUN_ENTRIES;
 use naive::front;
 use naive::plus;
 use naive::set_letter;
@@ -73,7 +73,7 @@ fn on_pieces(word: &[u8], ends: &[u16], run: &mut Run) {
 
 // The first cases of one call, and what goes by its ends.
 fn on_call(call: Call, limits: bool, many: usize, word: &[u8], run: &mut Run) {
-    let mut list = [0u16; ENTRIES];
+    let mut list = [0u16; RUN_ENTRIES];
     let mut breaks = [0u16; BREAK_ENTRIES];
     let found = naive::answer(call, word, &mut list, &mut breaks);
     let ends = front(&list, found.list);
@@ -100,6 +100,7 @@ fn on_call(call: Call, limits: bool, many: usize, word: &[u8], run: &mut Run) {
 fn on_record(word: &[u8], run: &mut Run) {
     on_call(Call::Test, false, 1, word, run);
     on_call(Call::Starts, false, 1, word, run);
+    on_call(Call::Repetitions, false, 1, word, run);
     on_call(Call::Strict, false, 1, word, run);
     on_call(Call::Pieces, false, 1, word, run);
     on_call(Call::Breaks, false, 1, word, run);
@@ -112,6 +113,7 @@ fn on_lent(word: &[u8], run: &mut Run) {
     on_call(Call::Breaks, true, 64, word, run);
     on_call(Call::Strict, true, 4, word, run);
     on_call(Call::Starts, true, 4, word, run);
+    on_call(Call::Repetitions, true, 4, word, run);
 }
 
 // The calls of a group.

@@ -33,6 +33,7 @@ fn print_lent(limits: bool, run: &Run) {
     print_line(b"icfl_batch", Call::Batch, limits, run);
     print_line(b"cfl_in", Call::Strict, limits, run);
     print_line(b"lyndon_table", Call::Starts, limits, run);
+    print_line(b"runs", Call::Repetitions, limits, run);
 }
 
 // The lines of the other calls.

@@ -1,35 +1,11 @@
 //! What request 102 says of single records: the piece cut with its breaks.
+use super::printing::print_groups;
 use super::printing::print_list;
 use super::printing::print_refusal;
 use checks::MOST;
 use icfl::CountedBreaks;
 use libc::STDOUT_FILENO;
 use naive::front;
-use naive::plus;
-
-// The five entries of a break from one on, where there are so many.
-fn print_break(list: &[u16], from: usize) {
-    if list.len() < 5 {
-        return;
-    }
-    if list.len() - 5 < from {
-        return;
-    }
-    io::write_all(STDOUT_FILENO, b"(");
-    print_list(&list[from..from + 5]);
-    io::write_all(STDOUT_FILENO, b")");
-}
-
-// So many breaks.
-fn print_breaks(list: &[u16], count: usize) {
-    let mut from: usize = 0;
-    let mut left = count;
-    while 0 < left {
-        print_break(list, from);
-        from = plus(from, 5);
-        left -= 1;
-    }
-}
 
 /// The piece ends and the breaks, with so many entries lent for them as `ends` and `list` have.
 pub fn print_reasons(name: &[u8], word: &[u8], ends: &mut [u16], list: &mut [u16]) {
@@ -40,7 +16,7 @@ pub fn print_reasons(name: &[u8], word: &[u8], ends: &mut [u16], list: &mut [u16
             io::write_all(STDOUT_FILENO, b"pieces=");
             print_list(front(ends, factors));
             io::write_all(STDOUT_FILENO, b" breaks=");
-            print_breaks(list, breaks);
+            print_groups(list, 5, breaks);
         }
         CountedBreaks::Refused(number) => print_refusal(number),
     }

@@ -6,6 +6,7 @@ mod comparisons; // two starts: the sign, and how far they agree
 mod marks; // records with marks
 mod printing; // lists of numbers, refusals and answers
 mod refusals; // the refusals of every call
+mod repetitions; // the maximal repetitions
 
 use batches::print_batches;
 use breaks::print_joins;
@@ -19,6 +20,7 @@ use naive::store_three;
 use printing::print_answer;
 use printing::print_list;
 use refusals::print_refusals;
+use repetitions::print_repetitions;
 
 // The piece ends, with so many entries lent for them as `ends` has.
 fn print_pieces(name: &[u8], word: &[u8], ends: &mut [u16]) {
@@ -84,7 +86,8 @@ fn print_room() {
     io::write_all(STDOUT_FILENO, b"\n");
 }
 
-// The table, what is said of H and I and of ranges, breaks, marks, and the refusals of a record with a mark, at the greatest length and one above it.
+// The table, what is said of H and I and of ranges, breaks, marks, repetitions, and the refusals of a record with a mark, at the greatest length and one
+// above it.
 fn main() {
     print_table();
     print_starts();
@@ -96,6 +99,7 @@ fn main() {
     print_room_for_breaks();
     print_marks();
     print_batches();
+    print_repetitions();
     print_refusals(b"ba, a mark: ", b"ba\xff", &[3]);
     let word = [97u8; MOST + 1];
     print_refusals(b"4096 letters: ", &word[..MOST], &[4096]);

@@ -3,6 +3,7 @@ use checks::Counted;
 use libc::STDOUT_FILENO;
 use naive::entry;
 use naive::front;
+use naive::plus;
 
 /// Numbers with commas between them.
 pub fn print_list(list: &[u16]) {
@@ -13,6 +14,30 @@ pub fn print_list(list: &[u16]) {
         }
         io::print_decimal(STDOUT_FILENO, entry(list, i) as u64);
         i += 1;
+    }
+}
+
+// So many entries from one on, where there are so many.
+fn print_group(list: &[u16], from: usize, size: usize) {
+    if list.len() < size {
+        return;
+    }
+    if list.len() - size < from {
+        return;
+    }
+    io::write_all(STDOUT_FILENO, b"(");
+    print_list(&list[from..from + size]);
+    io::write_all(STDOUT_FILENO, b")");
+}
+
+/// So many groups of entries, each of that size: breaks, or repetitions.
+pub fn print_groups(list: &[u16], size: usize, count: usize) {
+    let mut from: usize = 0;
+    let mut left = count;
+    while 0 < left {
+        print_group(list, from, size);
+        from = plus(from, size);
+        left -= 1;
     }
 }
 

@@ -24,7 +24,7 @@ fn refusal_beside(word: &[u8], work: &mut [u16], ends: &mut [u16]) -> u16 {
     }
 }
 
-// The same of the calls that are lent buffers: the test, the piece cut alone and with its breaks, the strict cut, the start table.
+// The same of the calls that are lent buffers: the test, the piece cut alone and with its breaks, the strict cut, the start table, the repetitions.
 fn print_lent_refusals(word: &[u8]) {
     let mut work = [0u16; 3 * MOST];
     let mut list = [0u16; MOST];
@@ -36,7 +36,8 @@ fn print_lent_refusals(word: &[u8]) {
     let broken = refusal_beside(word, &mut work, &mut list);
     let strict = refusal(cfl::cfl_in(word, &mut list));
     let starts = refusal(table::lyndon_table(word, &mut list));
-    print_list(&[tested, pieces, broken, strict, starts]);
+    let repeated = refusal(runs::runs(word, &mut list));
+    print_list(&[tested, pieces, broken, strict, starts, repeated]);
 }
 
 /// The refusal's number of every call, 0 for a result: of those that are lent buffers, then of comparison, reader and summary.

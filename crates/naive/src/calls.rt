@@ -8,6 +8,7 @@ use super::extension::failing_by_trial;
 use super::extension::failing_length;
 use super::fold::pieces_by_fold;
 use super::pieces::pieces_by_definition;
+use super::repetitions::write_runs;
 use super::strict::starts_by_longest;
 use super::strict::strict_by_longest;
 use super::suffixes::starts_by_suffixes;
@@ -20,6 +21,7 @@ pub enum Call {
     Breaks,
     Strict,
     Starts,
+    Repetitions,
     Compare,
     Common,
     Part,
@@ -61,6 +63,7 @@ fn list_by_faster_ways(call: Call, word: &[u8], list: &mut [u16]) -> usize {
         Call::Pieces | Call::Breaks => pieces_by_fold(word, list),
         Call::Strict => strict_by_suffixes(word, list),
         Call::Starts => starts_by_suffixes(word, list),
+        Call::Repetitions => write_runs(word, false, list),
         _ => 0,
     }
 }
@@ -72,6 +75,7 @@ fn list_by_definition(call: Call, word: &[u8], list: &mut [u16]) -> usize {
         Call::Pieces | Call::Breaks => pieces_by_definition(word, list),
         Call::Strict => strict_by_longest(word, list),
         Call::Starts => starts_by_longest(word, list),
+        Call::Repetitions => write_runs(word, true, list),
         _ => 0,
     }
 }

@@ -8,6 +8,7 @@ mod suffixes; // the same two by comparing suffixes of the whole word
 mod pieces; // the piece cut by its recursive definition
 mod fold; // the piece cut as a fold over the strict cut
 mod breaks; // the breaks of the piece cut, step by step
+mod repetitions; // the maximal repetitions, by their ends and by their periods
 mod parts; // the parts that a list of ends marks, and their summary
 mod calls; // the calls by name, and the lists that they answer on a record without marks
 mod stretches; // the same on records with marks, stretch by stretch
@@ -16,6 +17,7 @@ mod batch; // a card of records, one after another
 
 pub use access::BREAK_ENTRIES;
 pub use access::ENTRIES;
+pub use access::RUN_ENTRIES;
 pub use access::entry;
 pub use access::front;
 pub use access::letter;

@@ -1,6 +1,6 @@
-//! Records with marks. A byte 255 is no level but a mark: a piece and a strict piece of its own, with 1 in the start table. A stretch is what stands
-//! between two neighbouring marks, or between a mark and an edge of the record. Each one that is not empty is cut as a record by itself, and what is found
-//! is then put in the record's places.
+//! Records with marks. A byte 255 is no level but a mark: a piece and a strict piece of its own, with 1 in the start table, and in no repetition. A
+//! stretch is what stands between two neighbouring marks, or between a mark and an edge of the record. Each one that is not empty is cut as a record by
+//! itself, and what is found is then put in the record's places.
 use super::access::entry;
 use super::access::plus;
 use super::access::store;
@@ -38,23 +38,26 @@ enum Entries {
     Ends,
     Lengths,
     Breaks,
+    Repetitions,
 }
 
 // Those of the list that a call answers, beside its breaks.
 fn entries_of(call: Call) -> Entries {
     match call {
         Call::Test | Call::Starts => Entries::Lengths,
+        Call::Repetitions => Entries::Repetitions,
         _ => Entries::Ends,
     }
 }
 
 // How much entry k of a stretch's list grows in the record, where the stretch begins at `from`: an end is a place, and so are the first two of a break's
-// five entries.
+// five entries, and of a repetition's three.
 fn growth(entries: Entries, k: usize, from: usize) -> usize {
     match entries {
         Entries::Ends => from,
         Entries::Lengths => 0,
         Entries::Breaks => { if k % 5 < 2 { from } else { 0 } }
+        Entries::Repetitions => { if k % 3 < 2 { from } else { 0 } }
     }
 }
 
@@ -105,12 +108,12 @@ fn write_stretch(
     plus(at, count)
 }
 
-// Writes the entry of a mark, from `at` on: its end, or its length; it has no break. Answers the entry after it.
+// Writes the entry of a mark, from `at` on: its end, or its length; it has no break and is in no repetition. Answers the entry after it.
 fn write_separator(entries: Entries, place: usize, list: &mut [u16], at: usize) -> usize {
     let value = match entries {
         Entries::Ends => plus(place, 1),
         Entries::Lengths => 1,
-        Entries::Breaks => return at,
+        Entries::Breaks | Entries::Repetitions => return at,
     };
     store(list, at, value);
     plus(at, 1)

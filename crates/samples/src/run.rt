@@ -4,7 +4,7 @@ use naive::Call;
 use naive::plus;
 
 // How many calls are compared.
-const CALLS: usize = 10;
+const CALLS: usize = 11;
 
 /// Where the generator's state stands: after two counts for each call, and two for its cases at the boundaries of the refusals.
 pub const STATE: usize = 4 * CALLS;
@@ -35,6 +35,7 @@ pub fn place(call: Call, limits: bool) -> usize {
         Call::Summary => 14,
         Call::Breaks => 16,
         Call::Batch => 18,
+        Call::Repetitions => 20,
     };
     if limits {
         plus(number, 2 * CALLS)

@@ -1,10 +1,12 @@
-//! The calls that are lent buffers, with every entry of these: the test, the piece cut alone and with its breaks, the strict cut, the start table.
+//! The calls that are lent buffers, with every entry of these: the test, the piece cut alone and with its breaks, the strict cut, the start table, the
+//! maximal repetitions.
 use checks::Counted;
 use extension::Extension;
 use icfl::CountedBreaks;
 use naive::BREAK_ENTRIES;
 use naive::Call;
 use naive::ENTRIES;
+use naive::RUN_ENTRIES;
 use naive::Room;
 use naive::front;
 use naive::needed;
@@ -22,6 +24,9 @@ const SALT: usize = 40000;
 // Records up to this length go by the definitions too; longer ones by the faster second ways alone.
 const SHORT: usize = 300;
 
+// The same for the repetitions, whose definition tries every part of the record; each has three entries.
+const SHORTER: usize = SHORT / 3;
+
 // The test, its answer written as a list like that of the second implementation.
 fn test(word: &[u8], work: &mut [u16], list: &mut [u16]) -> Counted {
     match extension::find_extension(word, work) {
@@ -35,6 +40,14 @@ fn test(word: &[u8], work: &mut [u16], list: &mut [u16]) -> Counted {
             store_three(list, failing, prefix, border);
             Counted::Count(3)
         }
+    }
+}
+
+// The repetitions, their answer counting entries: three for each.
+fn repetitions(word: &[u8], list: &mut [u16]) -> Counted {
+    match runs::runs(word, list) {
+        Counted::Refused(number) => Counted::Refused(number),
+        Counted::Count(count) => Counted::Count(plus(count, plus(count, count))),
     }
 }
 
@@ -59,6 +72,7 @@ fn call_with(
         Call::Pieces => unbroken(icfl::icfl(word, work, list)),
         Call::Breaks => icfl::icfl_with_breaks(word, work, list, breaks),
         Call::Strict => unbroken(cfl::cfl_in(word, list)),
+        Call::Repetitions => unbroken(repetitions(word, list)),
         _ => unbroken(table::lyndon_table(word, list)),
     }
 }
@@ -114,7 +128,7 @@ fn written(refused: u8, want: &[u16]) -> &[u16] {
 // Whether the call, lent so many entries, does as the second implementation says: its answer, and every entry of the buffers.
 fn lent_is(call: Call, word: &[u8], lent: Room, want: &[u16], want_breaks: &[u16]) -> bool {
     let mut work = [0u16; 3 * ENTRIES];
-    let mut list = [0u16; ENTRIES];
+    let mut list = [0u16; RUN_ENTRIES];
     let mut breaks = [0u16; BREAK_ENTRIES];
     fill(&mut work, WORK_SALT);
     fill(&mut list, SALT);
@@ -135,7 +149,11 @@ fn is_list(list: &[u16], count: usize, want: &[u16]) -> bool {
 
 // Whether the definitions give the same lists, for a short record.
 fn is_defined(call: Call, word: &[u8], want: &[u16], want_breaks: &[u16]) -> bool {
-    if SHORT < word.len() {
+    let most = match call {
+        Call::Repetitions => SHORTER,
+        _ => SHORT,
+    };
+    if most < word.len() {
         return true;
     }
     let mut list = [0u16; SHORT];

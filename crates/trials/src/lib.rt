@@ -1,5 +1,5 @@
 //! One case of each call, compared with the second implementation of `naive`.
-mod lending; // the calls that are lent buffers: the test, the piece cut alone and with its breaks, the strict cut, the start table
+mod lending; // the calls that are lent buffers: the test, the piece cut alone and with its breaks, the strict cut, the start table, the repetitions
 mod comparing; // the comparison, and that of two words alone with how far they agree
 mod parting; // the reader and the summary
 mod batching; // the card of records
