@@ -1,6 +1,5 @@
 pub mod InsertLaws
 pub mod Moving
-pub mod RankedLaws
 pub mod LongestLaws
 pub mod PlaceLaws
 pub mod VisitLaws

@@ -30,8 +30,9 @@ use Rattle.words.specs.repetitions.TwoOrders.{
   longest-falls,
   longest-rises,
 }
-use Rattle.runs.specs.Longest.{mostByte, ranked, Precedes, LongestAfter, LongestFilled}
-use Rattle.runs.proofs.RankedLaws.{ranked-length, ranked-part}
+use Rattle.table.specs.Orders.{mostByte, ranked, Precedes}
+use Rattle.runs.specs.Longest.{LongestAfter, LongestFilled}
+use Rattle.table.proofs.RankedLaws.{ranked-length, ranked-part}
 
 -- ---- the entry of an order
 

@@ -25,7 +25,7 @@ use Rattle.words.specs.repetitions.Found.{
   period-same,
   period-other,
 }
-use Rattle.runs.specs.Longest.{mostByte}
+use Rattle.table.specs.Orders.{mostByte}
 
 -- ---- to the left
 

@@ -19,7 +19,7 @@ use Rattle.words.specs.repetitions.Serving.{found-serves}
 use Rattle.words.specs.repetitions.Insertion.{insertRun, sortInto, sort-append, sort-one, sort-none, sort-length, sort-in-order}
 use Rattle.runs.specs.Runs.{entriesOf}
 use Rattle.runs.specs.Inserting.{triples, InsertRoom}
-use Rattle.runs.specs.Longest.{mostByte}
+use Rattle.table.specs.Orders.{mostByte}
 use Rattle.runs.specs.Places.{foundRuns, PlaceKnown, Listed, allFound, VisitRoom, Visited}
 use Rattle.runs.specs.declared.places.Found.{Found}
 use Rattle.runs.specs.declared.places.Found.the-variants.{None, Run}

@@ -19,7 +19,8 @@ use Rattle.words.specs.repetitions.TwoOrders.{UpTo}
 use Rattle.words.specs.repetitions.RunsAre.{runs-sound}
 use Rattle.words.specs.repetitions.RunsFewer.{found-sorted, found-length}
 use Rattle.words.specs.repetitions.Insertion.{sortInto, InOrder, sorted-behind, sorted-moved, sort-in-order}
-use Rattle.runs.specs.Longest.{mostByte, LongestRoom, LongestFilled}
+use Rattle.table.specs.Orders.{mostByte}
+use Rattle.runs.specs.Longest.{LongestRoom, LongestFilled}
 use Rattle.runs.specs.Places.{Listed, allFound, VisitRoom, Visited, UnmarkedTo, StretchEnds, WalkRoom, Walked}
 use Rattle.runs.proofs.VisitLaws.{list-stands, list-after}
 

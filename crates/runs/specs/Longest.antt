@@ -1,30 +1,11 @@
 -- What the functions that find the longest Lyndon words of both orders ask and promise. No call's promise cites this file.
 use mathlib.Core.Path.{_≡_}
-use mathlib.Core.Bool.{Bool, true, false}
 use mathlib.Core.List.{List}
 use Prim.Native.Nat.{ℕ, _+_, _≤_, _<_}
 use lib.ListN.{length, getD}
 use Rattle.words.specs.Words.{mostLetters}
-use Rattle.words.specs.repetitions.TwoOrders.{reversed, longestAt}
-
--- the greatest byte
-abbrev pub mostByte : ℕ
-mostByte = 255
-
--- a word in the natural order of its letters, or in the inverse one, which all definitions of words are in
-abbrev pub ranked : Bool → List ℕ → List ℕ
-ranked true w = reversed mostByte w
-ranked false w = w
-
--- a comes before b in that order
-abbrev pub Precedes : Bool → ℕ → ℕ → Type 0
-Precedes true a b = a < b
-Precedes false a b = b < a
-
--- neither word is empty
-pub record Nonempty (u v : List ℕ) : Type 0 where
-  pub left : 0 < length u
-  pub right : 0 < length v
+use Rattle.words.specs.repetitions.TwoOrders.{longestAt}
+use Rattle.table.specs.Orders.{mostByte}
 
 -- the entry at a place is the longer one of both orders
 pub record LongestKnown (w longest : List ℕ) (j : ℕ) : Type 0 where

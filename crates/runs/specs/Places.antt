@@ -14,7 +14,8 @@ use Rattle.checks.specs.Lines.{tried, resultLine}
 use Rattle.checks.specs.declared.Checked.{Checked}
 use Rattle.runs.specs.Runs.{entriesOf}
 use Rattle.runs.specs.Inserting.{triples}
-use Rattle.runs.specs.Longest.{mostByte, LongestKnown, LongestFilled}
+use Rattle.table.specs.Orders.{mostByte}
+use Rattle.runs.specs.Longest.{LongestKnown, LongestFilled}
 use Rattle.runs.specs.declared.places.Found.{Found}
 use Rattle.runs.specs.declared.places.Found.the-variants.{None, Run}
 

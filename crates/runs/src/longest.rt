@@ -2,38 +2,10 @@
 //! follow, as long as each comes after what stands before it. At each place one of the two lengths is 1, so the longer one is kept; the letters of its word tell its order.
 ghost use mathlib.Core.Path.{_≡_};
 ghost use mathlib.Core.Bool.{not};
-ghost use Rattle.words.specs.Words.{_≺_};
-ghost use Rattle.words.specs.orders.Decisions.{Decides};
 ghost use Rattle.words.specs.repetitions.RunSuffixes.{entryAt};
 ghost use Rattle.words.specs.repetitions.TwoOrders.{longestAt};
-ghost use Rattle.runs.specs.Longest.{mostByte, ranked, Precedes, Nonempty, LongestKnown, LongestAfter, NextAfter, LongestRoom, LongestFilled};
-
-// Whether the letter a comes before b: the smaller one does in the natural order, the larger one in the inverse order.
-fn precedes(natural: bool, a: u8, b: u8) -> bool
-    ensures { λ r. ⌜ Decides (Precedes natural a b) r ⌝ }
-{
-    if natural { a < b } else { b < a }
-}
-
-// Whether u comes before v: by the first letters that differ, or as a proper prefix.
-fn comes_before(natural: bool, u: &[u8], v: &[u8]) -> bool
-    requires { ⌜ Nonempty (now u) (now v) ⌝ }
-    ensures { λ r. ⌜ Decides (ranked natural (now (u .entry)) ≺ ranked natural (now (v .entry))) r ⌝ }
-{
-    let a = u[0];
-    let b = v[0];
-    if b != a {
-        return precedes(natural, a, b);
-    }
-    let l = common::common_length(u, v);
-    if l == v.len() {
-        return false;
-    }
-    if l == u.len() {
-        return true;
-    }
-    precedes(natural, u[l], v[l])
-}
+ghost use Rattle.table.specs.Orders.{mostByte, ranked};
+ghost use Rattle.runs.specs.Longest.{LongestKnown, LongestAfter, NextAfter, LongestRoom, LongestFilled};
 
 // The length of the longest Lyndon word at j in an order: a word of more than one letter begins with a letter that comes before its last one.
 fn length_in(natural: bool, word: &[u8], longest: &[u16], j: usize) -> usize
@@ -41,7 +13,7 @@ fn length_in(natural: bool, word: &[u8], longest: &[u16], j: usize) -> usize
     ensures { λ r. ⌜ r ≡ entryAt (ranked natural (now (word .entry))) j ⌝ }
 {
     let n = longest[j] as usize;
-    if precedes(natural, word[j], word[j + n - 1]) {
+    if table::precedes(natural, word[j], word[j + n - 1]) {
         return n;
     }
     1
@@ -55,7 +27,7 @@ fn merged_length(natural: bool, word: &[u8], longest: &[u16], i: usize) -> usize
     let mut j = i + 1;
     while j < word.len() {
         let n = length_in(natural, word, longest, j);
-        if !comes_before(natural, &word[i..j], &word[j..j + n]) {
+        if !table::comes_before(natural, &word[i..j], &word[j..j + n]) {
             return j - i;
         }
         j += n;

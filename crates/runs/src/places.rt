@@ -4,7 +4,7 @@ ghost use Prim.Native.Nat.{_<_};
 ghost use lib.ListN.{length};
 ghost use Rattle.words.specs.orders.Decisions.{Decides};
 ghost use Rattle.words.specs.repetitions.Found.{leftOf, Counts, periodAt, foundAt};
-ghost use Rattle.runs.specs.Longest.{mostByte};
+ghost use Rattle.table.specs.Orders.{mostByte};
 ghost use Rattle.runs.specs.Places.{foundRuns, LeftAsked, PlaceKnown};
 
 /// What is found at a place: no run, or one with its first place, end and period.

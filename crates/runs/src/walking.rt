@@ -6,7 +6,7 @@ use super::places::run_at;
 ghost use Prim.Native.Nat.{_<_};
 ghost use lib.ListN.{length};
 ghost use Rattle.words.specs.repetitions.Found.{foundAt};
-ghost use Rattle.runs.specs.Longest.{mostByte};
+ghost use Rattle.table.specs.Orders.{mostByte};
 ghost use Rattle.runs.specs.Places.{allFound, VisitRoom, Visited, StretchEnds, WalkRoom, Walked};
 
 // One place of the stretch that begins at `from`: answers the number of runs, which was `count` before.

@@ -1,3 +1,4 @@
+pub mod RankedLaws
 pub mod BeforeLaws
 pub mod EntryLaws
 pub mod MergeLaws

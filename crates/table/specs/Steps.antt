@@ -30,11 +30,6 @@ pub record MergedTo (w out : List ℕ) (i j : ℕ) : Type 0 where
   pub below : getD w i 0 < separator
   pub merged : Merged w i j
 
--- neither word is empty
-pub record BothBegin (u v : List ℕ) : Type 0 where
-  pub left : 0 < length u
-  pub right : 0 < length v
-
 -- a word that begins with a separator is a single letter
 abbrev pub SeparatorAlone : List ℕ → Type 0
 SeparatorAlone v = getD v 0 0 ≡ separator → length v ≤ 1

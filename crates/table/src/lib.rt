@@ -3,8 +3,11 @@
 use checks::Checked;
 use checks::Counted;
 
-mod merging;
+mod merging; // fill_table: the table from its last entry on
+mod orders; // precedes, comes_before: letters and words in either order of the letters
 
+pub use orders::comes_before;
+pub use orders::precedes;
 ghost use mathlib.Core.Path.{_≡_};
 ghost use Rattle.checks.specs.Lines.{tried};
 ghost use Rattle.table.specs.Table.{tableLines, Tabled};

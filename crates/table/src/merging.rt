@@ -1,27 +1,13 @@
 //! The Lyndon table by merging: from right to left, the longest anti-Lyndon word at a place is made of the letter there and the
 //! longest words that follow, as long as each comes after what stands before it. A separator is a word alone; it comes before every word
 //! that begins below it, so it joins none.
+use super::orders::comes_before;
 ghost use mathlib.Core.Path.{_≡_};
 ghost use lib.ListN.{getD};
-ghost use Rattle.words.specs.Words.{_≺_};
 ghost use Rattle.words.specs.Separated.{separatedTable};
 ghost use Rattle.words.specs.orders.Decisions.{Decides};
 ghost use Rattle.buffers.specs.Buffers.{written};
-ghost use Rattle.table.specs.Steps.{TableRoom, NextKnown, MergedTo, BothBegin, SeparatorAlone, LetterJoins};
-
-// Whether u comes before v in the inverse order. Their first letters decide most often; if these are equal, what follows them does.
-fn comes_before(u: &[u8], v: &[u8]) -> bool
-    requires { ⌜ BothBegin (now u) (now v) ⌝ }
-    ensures { λ r. ⌜ Decides (now (u .entry) ≺ now (v .entry)) r ⌝ }
-{
-    let a = u[0];
-    let b = v[0];
-    if b != a {
-        return b < a;
-    }
-    let order = common::compare_words(&u[1..], &v[1..]);
-    order.sign < 0
-}
+ghost use Rattle.table.specs.Steps.{TableRoom, NextKnown, MergedTo, SeparatorAlone, LetterJoins};
 
 // Whether a letter joins the word v after it, which is a single letter if it begins with a separator. A separator joins none; it is looked
 // for only where the first letters differ, since two of them do not join anyhow.
@@ -48,7 +34,7 @@ fn longest_from(word: &[u8], lengths: &[u16], i: usize, from: usize) -> usize
     let mut j = from;
     while j < word.len() {
         let n = lengths[j] as usize;
-        if !comes_before(&word[i..j], &word[j..j + n]) {
+        if !comes_before(false, &word[i..j], &word[j..j + n]) {
             return j - i;
         }
         j += n;

@@ -6,7 +6,7 @@ use Prim.Native.Nat.{_+_, _≤_, _<_}
 use lib.ListN.{length, getD}
 use Rattle.words.specs.orders.Decisions.{decides-true, decides-false}
 use Rattle.words.specs.repetitions.TwoOrders.{UpTo, longest-inside}
-use Rattle.runs.specs.Longest.{mostByte}
+use Rattle.table.specs.Orders.{mostByte}
 use Rattle.runs.proofs.LongestLaws.{length-in, length-other}
 use Rattle.runs.proofs.longest.length_in.Statement.{statement}
 use Rattle.runs.proofs.longest.length_in.Tie as tie

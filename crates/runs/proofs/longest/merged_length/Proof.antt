@@ -6,8 +6,8 @@ use lib.ListN.{length}
 use borrow.Author.Tests.{not-true, not-false}
 use Rattle.words.specs.orders.Decisions.{decides-true, decides-false}
 use Rattle.words.specs.table.Merging.{Merged, merged-letter}
-use Rattle.runs.specs.Longest.{ranked}
-use Rattle.runs.proofs.RankedLaws.{ranked-length}
+use Rattle.table.specs.Orders.{ranked}
+use Rattle.table.proofs.RankedLaws.{ranked-length}
 use Rattle.runs.proofs.LongestLaws.{turn-fits, turn-joins, turn-stops, turns-end}
 use Rattle.runs.proofs.longest.merged_length.Statement.{statement}
 use Rattle.runs.proofs.longest.merged_length.Tie as tie

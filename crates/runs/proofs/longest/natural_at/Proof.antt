@@ -4,7 +4,7 @@ use native.Mathlib.Omega.{arith}
 use Prim.Native.Nat.{_+_, _≤_}
 use lib.ListN.{length, getD}
 use Rattle.words.specs.repetitions.TwoOrders.{UpTo, longest-inside}
-use Rattle.runs.specs.Longest.{mostByte}
+use Rattle.table.specs.Orders.{mostByte}
 use Rattle.runs.proofs.LongestLaws.{next-alone, same-alone}
 use Rattle.runs.proofs.longest.natural_at.Statement.{statement}
 use Rattle.runs.proofs.longest.natural_at.Tie as tie

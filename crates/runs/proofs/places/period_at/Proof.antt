@@ -3,7 +3,7 @@ use borrow.Author.Needs.{needs}
 use native.Mathlib.Omega.{arith}
 use mathlib.Core.Path.{sym, _∙_}
 use Rattle.words.specs.repetitions.Found.{period-same, period-other}
-use Rattle.runs.specs.Longest.{mostByte}
+use Rattle.table.specs.Orders.{mostByte}
 use Rattle.runs.proofs.places.period_at.Statement.{statement}
 use Rattle.runs.proofs.places.period_at.Tie as tie
 

@@ -6,7 +6,7 @@ use mathlib.Core.List.{List, [], _∷_}
 use native.Mathlib.Omega.{arith}
 use Rattle.words.specs.Runs.{Triple}
 use Rattle.words.specs.repetitions.Found.{foundAt}
-use Rattle.runs.specs.Longest.{mostByte}
+use Rattle.table.specs.Orders.{mostByte}
 use Rattle.runs.specs.Places.{foundRuns}
 use Rattle.runs.proofs.VisitLaws.{EntriesFit, none-told, place-known, run-fits, visit-none, visit-counts, visit-room, visit-stores}
 use Rattle.runs.proofs.walking.visit_place.Statement.{statement}

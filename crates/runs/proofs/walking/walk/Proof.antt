@@ -5,7 +5,7 @@ use Prim.Native.Nat.{_-_}
 use native.Mathlib.Omega.{arith}
 use lib.ListN.{length}
 use Rattle.words.specs.repetitions.TwoOrders.{UpTo}
-use Rattle.runs.specs.Longest.{mostByte}
+use Rattle.table.specs.Orders.{mostByte}
 use Rattle.runs.proofs.WalkLaws.{Walking, stretch-fills, walk-begins, walk-asks, walk-turn, walk-ends}
 use Rattle.runs.proofs.walking.walk.Statement.{statement}
 use Rattle.runs.proofs.walking.walk.Tie as tie

@@ -3,17 +3,17 @@
 use mathlib.Core.Path.{_≡_, refl, ap, sym, _∙_}
 use mathlib.Core.Bool.{Bool, true, false}
 use mathlib.Core.List.{List, [], _∷_, map}
-use Prim.Native.Nat.{ℕ, zero, suc, _-_, _<_}
+use Prim.Native.Nat.{ℕ, zero, suc, _+_, _-_, _<_}
 use native.Mathlib.Omega.{arith}
 use lib.ListN.{length, take, drop, getD}
 use lib.Dec.{ltb}
-use Rattle.buffers.proofs.PartLaws.{part}
+use Rattle.buffers.proofs.PartLaws.{part, rest, rest-is}
 use Rattle.words.specs.Words.{_≺_, mismatch, commonLength}
 use Rattle.words.specs.orders.Decisions.{Decides, holds, fails, leb-test}
 use Rattle.words.specs.orders.InverseLaws.{pre, ≺-≼, ≺-not-≼, ≼-not-≪}
 use Rattle.words.specs.orders.CommonLength.{Agree, matched-none, common-agree, agree-sym, agree-⊑, agree-shorter, agree-≪}
 use Rattle.words.specs.repetitions.TwoOrders.{UpTo, reversed, reversed-length, reversed-at}
-use Rattle.runs.specs.Longest.{mostByte, ranked, Precedes}
+use Rattle.table.specs.Orders.{mostByte, ranked, Precedes}
 
 -- ---- letters
 
@@ -24,6 +24,10 @@ pub inverse-decides : {natural : Bool} (a b : ℕ) → natural ≡ false → Dec
 inverse-decides a b e = rw e (leb-test (suc b) a)
 
 -- ---- words
+
+-- in the inverse order they are as they are
+pub inverse-is : (natural : Bool) {t : Bool} (u v : List ℕ) → natural ≡ false → Decides (u ≺ v) t → Decides (ranked natural u ≺ ranked natural v) t
+inverse-is natural u v e d = rw e d
 
 pub ranked-length : (natural : Bool) (w : List ℕ) → length (ranked natural w) ≡ length w
 ranked-length true w = reversed-length mostByte w
@@ -78,8 +82,23 @@ precedes-other false a b n h = omega arith
 pub agree-first : (u v : List ℕ) → ¬ (getD v 0 0 ≡ getD u 0 0) → Agree u v 0
 agree-first u v d = record { matched = matched-none u v; differ = λ h k e. d (sym e) }
 
-pub agree-at : (u v : List ℕ) (l : ℕ) → l ≡ commonLength u v → Agree u v l
-agree-at u v l e = rw e (common-agree u v)
+pub agree-next : (u v : List ℕ) (r : ℕ) → 0 < length u → 0 < length v → getD v 0 0 ≡ getD u 0 0 → r ≡ commonLength (rest 1 u) (rest 1 v) → Agree u v (1 + r)
+agree-next [] v r p q e k = absurd (omega arith)
+agree-next (a ∷ u) [] r p q e k = absurd (omega arith)
+agree-next (a ∷ u) (b ∷ v) r p q e k = go (common-agree u v)
+  where
+    size : r ≡ commonLength u v
+    size = k ∙ rw (rest-is 1 (a ∷ u), rest-is 1 (b ∷ v))
+
+    go : Agree u v (commonLength u v) → Agree (a ∷ u) (b ∷ v) (1 + r)
+    go g = record {
+      matched = record {
+        left = omega (arith, g .matched .left, size);
+        right = omega (arith, g .matched .right, size);
+        equal = λ t. elim t [ zero ↦ λ h. sym e | suc s ↦ λ h. g .matched .equal s (omega (arith, size)) ];
+      };
+      differ = let z : 1 + r ≡ suc (commonLength u v) = omega (arith, size) in rw z (λ h n. g .differ (omega arith) (omega arith));
+    }
 
 module _ (natural : Bool) (u v : List ℕ) {l : ℕ} (p : UpTo mostByte u) (q : UpTo mostByte v) (g : Agree u v l) where
   ranks : Agree (ranked natural u) (ranked natural v) l

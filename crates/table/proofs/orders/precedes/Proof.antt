@@ -1,7 +1,7 @@
 -- Each branch compares as its order does.
-use Rattle.runs.proofs.RankedLaws.{natural-decides, inverse-decides}
-use Rattle.runs.proofs.longest.precedes.Statement.{statement}
-use Rattle.runs.proofs.longest.precedes.Tie as tie
+use Rattle.table.proofs.RankedLaws.{natural-decides, inverse-decides}
+use Rattle.table.proofs.orders.precedes.Statement.{statement}
+use Rattle.table.proofs.orders.precedes.Tie as tie
 
 returns : tie.Need-returns
 returns c = natural-decides _ _ (c .if1 .taken)
