@@ -13,7 +13,9 @@ mul-if1 : tie.Need-mul-if1
 mul-if1 c = search needs
 
 returns : tie.Need-returns
-returns c = room-at-once _ _ (c .before .before .before .before .pre .nonempty) (c .if1 .taken)
+returns c =
+    let start = c .before .before .before .before in
+    room-at-once (start .args .word .now) (start .args .runs .now) (start .pre .nonempty) (c .if1 .taken)
 
 walk-requires : tie.Need-walk-requires
 walk-requires c κs = count-asks _ (c .before .before .before .before .before .before .pre)
