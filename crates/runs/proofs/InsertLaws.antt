@@ -1,18 +1,16 @@
 -- Runs in a buffer, three entries each: one stored (run-stored), the entries of a list (entries-append, entries-length), the runs that stand there
--- (triples-length, triples-written, entries-triples, triples-at, triples-take); and a sorted list that gets one run more (listed, list-room, list-more).
-use mathlib.Core.Path.{_≡_, refl, ap, sym, _∙_}
+-- (triples-length, triples-written, entries-triples, triples-at, triples-take).
+use mathlib.Core.Path.{_≡_, refl, ap, _∙_}
 use mathlib.Core.List.{List, [], _∷_, _++_, flatten}
 use Prim.Native.Nat.{ℕ, zero, suc, _+_, _*_, _≤_, _<_}
 use native.Mathlib.Omega.{arith}
 use native.Mathlib.Numerals.{add-one, add-two}
 use lib.ListN.{length, take, drop, getD, set}
-use lib.Seq.{sets, drop-append-seam, getD-drop}
-use Rattle.buffers.specs.Buffers.{written}
-use Rattle.buffers.proofs.BufferLaws.{kept-past}
+use lib.Seq.{sets, getD-drop}
 use Rattle.words.specs.Runs.{Triple}
-use Rattle.words.specs.repetitions.Insertion.{insertRun, sorted, runAt, insert-length, sorted-more, sorted-length, sorted-in-order}
+use Rattle.words.specs.repetitions.Insertion.{runAt}
 use Rattle.runs.specs.Runs.{runEntries, entriesOf}
-use Rattle.runs.specs.Inserting.{runFrom, triples, InsertRoom}
+use Rattle.runs.specs.Inserting.{runFrom, triples}
 
 -- ---- entries
 
@@ -71,24 +69,3 @@ unfolding triples
 triples-take c zero xs l = refl
 triples-take zero (suc k) xs l = absurd (omega arith)
 triples-take (suc c) (suc k) xs l = ap (λ (t : List Triple). (getD xs 0 0, getD xs 1 0, getD xs 2 0) ∷ t) (triples-take c k (drop 3 xs) (omega arith))
-
--- ---- a list that is written run by run
-
--- xs holds the sorted list of rs
-module _ (rs : List Triple) (xs₀ xs : List ℕ) (s : xs ≡ written (entriesOf (sorted rs)) xs₀) where
-  pub listed : triples (length rs) xs ≡ sorted rs
-  listed =
-      ap (λ (n : ℕ). triples n xs) (sym (sorted-length rs))
-      ∙ ap (triples (length (sorted rs))) s
-      ∙ triples-written (sorted rs) (drop (length (entriesOf (sorted rs))) xs₀)
-
-  pub list-room : 3 * length rs + 3 ≤ length xs → InsertRoom xs (length rs)
-  list-room l = record { room = l; in-order = rw listed (sorted-in-order rs) }
-
-  pub list-more : (r : Triple) → written (entriesOf (insertRun r (triples (length rs) xs))) xs ≡ written (entriesOf (sorted (rs ++ r ∷ []))) xs₀
-  list-more r = rw (listed, sorted-more rs r) (ap (λ (t : List ℕ). entriesOf (insertRun r (sorted rs)) ++ t) kept)
-    where
-      kept : drop (length (entriesOf (insertRun r (sorted rs)))) xs ≡ drop (length (entriesOf (insertRun r (sorted rs)))) xs₀
-      kept = kept-past (length (entriesOf (sorted rs))) (length (entriesOf (insertRun r (sorted rs)))) xs xs₀
-          (omega (arith, entries-length (sorted rs), entries-length (insertRun r (sorted rs)), insert-length r (sorted rs)))
-          (ap (drop (length (entriesOf (sorted rs)))) s ∙ drop-append-seam (entriesOf (sorted rs)) (drop (length (entriesOf (sorted rs))) xs₀))

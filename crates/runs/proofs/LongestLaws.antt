@@ -1,5 +1,5 @@
--- The longest Lyndon words of both orders, as the code finds them. The longer entry tells both (length-in, length-other); the next letter, or the word there, tells in which order the
--- letter at a place is alone (next-alone, same-alone); the entry of the other order is the longer one (one-longest).
+-- The longest Lyndon words of both orders, as the code finds them. The longer entry tells both (length-in, length-other); the next letter, or the word
+-- there, tells in which order the letter at a place is alone (next-alone, same-alone); the entry of the other order is the longer one (one-longest).
 use mathlib.Core.Path.{_≡_, refl, ap, sym, _∙_}
 use mathlib.Core.Bool.{Bool, true, false, not}
 use mathlib.Core.List.{List}
@@ -37,7 +37,8 @@ use Rattle.table.proofs.RankedLaws.{ranked-length, ranked-part}
 -- ---- the entry of an order
 
 module _ (w : List ℕ) (b : UpTo mostByte w) (j : ℕ) (l : j < length w) where
-  pub length-in : (natural : Bool) → Precedes natural (getD w j 0) (getD w (j + longestAt mostByte w j - 1) 0) → longestAt mostByte w j ≡ entryAt (ranked natural w) j
+  pub length-in : (natural : Bool) → Precedes natural (getD w j 0) (getD w (j + longestAt mostByte w j - 1) 0)
+      → longestAt mostByte w j ≡ entryAt (ranked natural w) j
   length-in true h = sym (longest-rises mostByte w b j l .0 h)
   length-in false h = sym (longest-falls mostByte w b j l .0 h)
 
@@ -55,7 +56,8 @@ module _ (w : List ℕ) (b : UpTo mostByte w) (i : ℕ) (n : i + 1 < length w) w
       go (smaller x) = omega arith
       go (goes-on e x) = omega (arith, k e)
 
-  natural-alone : getD w (i + 1) 0 ≤ getD w i 0 → (getD w (i + 1) 0 ≡ getD w i 0 → entryAt (reversed mostByte w) (i + 1) ≡ 1) → entryAt (reversed mostByte w) i ≡ 1
+  natural-alone : getD w (i + 1) 0 ≤ getD w i 0 → (getD w (i + 1) 0 ≡ getD w i 0 → entryAt (reversed mostByte w) (i + 1) ≡ 1)
+      → entryAt (reversed mostByte w) i ≡ 1
   natural-alone h k = entry-one (reversed mostByte w) i (rw (reversed-length mostByte w) (omega arith)) (λ m. go)
     where
       now : getD (reversed mostByte w) i 0 ≡ mostByte - getD w i 0
@@ -89,7 +91,8 @@ module _ (w : List ℕ) (b : UpTo mostByte w) (i : ℕ) (n : i + 1 < length w) w
 
 -- ---- the longer of both
 
-pub one-longest : (w : List ℕ) (i : ℕ) → i < length w → (natural : Bool) → entryAt (ranked (not natural) w) i ≡ 1 → entryAt (ranked natural w) i ≡ longestAt mostByte w i
+pub one-longest : (w : List ℕ) (i : ℕ) → i < length w → (natural : Bool) → entryAt (ranked (not natural) w) i ≡ 1
+    → entryAt (ranked natural w) i ≡ longestAt mostByte w i
 one-longest w i l true e = omega (arith, entry-positive (reversed mostByte w) i (rw (reversed-length mostByte w) l))
 one-longest w i l false e = omega (arith, entry-positive w i l)
 
@@ -122,7 +125,8 @@ module _ (natural : Bool) (w : List ℕ) {i j n : ℕ} (g : Merged (ranked natur
 
   pub turn-stops : ¬ (ranked natural (part i j w) ≺ ranked natural (part j (j + n) w)) → j - i ≡ entryAt (ranked natural w) i
   turn-stops h =
-      let x : ¬ (part i j v ≺ take (longestAntiLyndon (drop j v)) (drop j v)) = rw (ranked-part natural i j w, ranked-part natural j (j + n) w, next-word) at h in
+      let x : ¬ (part i j v ≺ take (longestAntiLyndon (drop j v)) (drop j v))
+      = rw (ranked-part natural i j w, ranked-part natural j (j + n) w, next-word) at h in
       sym (lyndon-table-at v i (omega (arith, g .after, g .inside)) ∙ merged-stops v i j g inside x)
 
 pub turns-end : (natural : Bool) (w : List ℕ) {i j : ℕ} → Merged (ranked natural w) i j → length w ≤ j → j - i ≡ entryAt (ranked natural w) i

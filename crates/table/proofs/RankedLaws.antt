@@ -1,5 +1,5 @@
--- Words in either order of the letters, as the code compares them: two words agree as far in both orders (agree-ranked), and the letters where they part decide which comes first
--- (parted-decide), or that one is a prefix of the other (whole-fails, prefix-holds).
+-- Words in either order of the letters, as the code compares them: two words agree as far in both orders (agree-ranked), and the letters where they part
+-- decide which comes first (parted-decide), or that one is a prefix of the other (whole-fails, prefix-holds).
 use mathlib.Core.Path.{_≡_, refl, ap, sym, _∙_}
 use mathlib.Core.Bool.{Bool, true, false}
 use mathlib.Core.List.{List, [], _∷_, map}

@@ -1,8 +1,8 @@
--- THEOREM examples. The records of paper 01 with known answers, computed from the definitions: one table, one theorem.
--- Beside paper 01's rows: baababb tells "join at |r|" from "join below |r|"; the word of 31 letters joins twice, one join
--- inside the other; aaab and cbabcbad tell the shortest r from the longest. Breaks (request 102) of I, of these, and of a falling record. Comparisons with how
--- far the starts agree (request 104): over the first piece of G, and past its end; a start with itself. Runs (request 107): a letter in a row, a run of the whole
--- record and of a part, one that ends where another begins, two that begin together and two that end together; none in aba, where the period fits once and a half.
+-- THEOREM examples. The records of paper 01 with known answers, computed from the definitions: one table, one theorem. Beside paper 01's rows: baababb
+-- tells "join at |r|" from "join below |r|"; the word of 31 letters joins twice, one join inside the other; aaab and cbabcbad tell the shortest r from the
+-- longest. Breaks (request 102) of I, of these, and of a falling record. Comparisons with how far the starts agree (request 104): over the first piece of
+-- G, and past its end; a start with itself. Runs (request 107): a letter in a row, a run of the whole record and of a part, one that ends where another
+-- begins, two that begin together and two that end together; none in aba, where the period fits once and a half.
 use mathlib.Core.Path.{_≡_, refl}
 use mathlib.Core.List.{List, [], _∷_, map}
 use Prim.Native.Nat.{ℕ}

@@ -1,5 +1,5 @@
--- DEFINITIONS. Runs (request 107; the paper's word is repetition, the field's maximal repetition): "List every maximal repetition: first place, end and period." What a run
--- is, the list of all of them as a function that computes, and both for a record with separators.
+-- DEFINITIONS. Runs (request 107; the paper's word is repetition, the field's maximal repetition): "List every maximal repetition: first place, end and
+-- period." What a run is, the list of all of them as a function that computes, and both for a record with separators.
 use mathlib.Core.Path.{_≡_}
 use mathlib.Core.Logic.{_⊎_}
 use mathlib.Core.List.{List, [], _∷_, _++_, map, List·Memᴰ}

@@ -1,5 +1,6 @@
--- THEOREM separated-examples. Records with separators (request 103), computed from the definitions: at the front, at the end, in a row, alone, and between two
--- copies of record I, whose breaks come again 18 places later. Runs (request 107) beside marks, and none of marks. THEOREM examples-stand: paper 01's records, which have none, keep their answers.
+-- THEOREM separated-examples. Records with separators (request 103), computed from the definitions: at the front, at the end, in a row, alone, and between
+-- two copies of record I, whose breaks come again 18 places later. Runs (request 107) beside marks, and none of marks. THEOREM examples-stand: paper 01's
+-- records, which have none, keep their answers.
 use mathlib.Core.Path.{_≡_, refl}
 use mathlib.Core.List.{List, [], _∷_, _++_, map}
 use Prim.Native.Nat.{ℕ}

@@ -1,5 +1,5 @@
--- The run that is looked for at a place (foundAt), as a program looks for it, and those of the first places (foundBelow): at most one at each. The period is 1 after the same
--- letter, else the longest Lyndon word of both orders; how far it repeats to the left and to the right decides (Candidate).
+-- The run that is looked for at a place (foundAt), as a program looks for it, and those of the first places (foundBelow): at most one at each. The period
+-- is 1 after the same letter, else the longest Lyndon word of both orders; how far it repeats to the left and to the right decides (Candidate).
 use mathlib.Core.Path.{_≡_, refl}
 use mathlib.Core.Logic.{_⊎_, inl, inr}
 use mathlib.Core.List.{List, [], _∷_, _++_}

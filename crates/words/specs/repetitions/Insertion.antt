@@ -175,10 +175,6 @@ pub sort-one : (qs : List Triple) (r : Triple) → sortInto qs (r ∷ []) ≡ in
 unfolding sortInto
 sort-one qs r = refl
 
-pub sorted-more : (rs : List Triple) (r : Triple) → sorted (rs ++ r ∷ []) ≡ insertRun r (sorted rs)
-unfolding sorted
-sorted-more rs r = sort-append [] rs (r ∷ []) ∙ sort-one (sortInto [] rs) r
-
 pub sort-length : (qs rs : List Triple) → length (sortInto qs rs) ≡ length qs + length rs
 unfolding sortInto
 sort-length qs [] = omega arith

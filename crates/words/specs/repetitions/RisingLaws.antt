@@ -39,10 +39,6 @@ rising-map f k none = none
 rising-map {S = S} f k (more {x = x} {xs = xs} h r) =
     more (λ y m. let q = Memᴰ·of-map f xs m in subst (λ z. S (f x) z) (q .2) (k x (q .0) (h (q .0) (q .1)))) (rising-map f k r)
 
-pub rising-weaken : {A : Type 0} {R S : A → A → Type 0} {xs : List A} → ((x y : A) → R x y → S x y) → Rising R xs → Rising S xs
-rising-weaken k none = none
-rising-weaken k (more h r) = more (λ y m. k _ y (h y m)) (rising-weaken k r)
-
 module _ {A : Type 0} {R : A → A → Type 0} (irreflexive : (x : A) → ¬ R x x) (asymmetric : (x y : A) → R x y → ¬ R y x) where
   pub rising-unique : {xs ys : List A} → Rising R xs → Rising R ys → ((x : A) → List·Memᴰ x xs → List·Memᴰ x ys)
       → ((x : A) → List·Memᴰ x ys → List·Memᴰ x xs) → xs ≡ ys

@@ -1,6 +1,6 @@
--- THEOREM root. Among the first places of a run, s + 1 to s + p, there is one at which its p letters are an anti-Lyndon word. The windows of p letters that start there are the
--- rotations of one word; two of them differ, since p is the smallest period (windows-differ), so one is above all others (Greatest), and a word above its
--- rotations is anti-Lyndon (rotations-anti-lyndon).
+-- THEOREM root. Among the first places of a run, s + 1 to s + p, there is one at which its p letters are an anti-Lyndon word. The windows of p letters that
+-- start there are the rotations of one word; two of them differ, since p is the smallest period (windows-differ), so one is above all others (Greatest),
+-- and a word above its rotations is anti-Lyndon (rotations-anti-lyndon).
 use mathlib.Core.Path.{_≡_, refl, ap, sym, subst, _∙_}
 use mathlib.Core.Logic.{_⊎_, inl, inr}
 use mathlib.Core.List.{List, _++_}
@@ -166,5 +166,6 @@ pub record Root (w : List ℕ) (s p i : ℕ) : Type 0 where
 pub root : {w : List ℕ} {s e p : ℕ} → Run w s e p → (i : ℕ) × Root w s p i
 root {w} {s} {e} {p} r =
     let q : (i : ℕ) × Greatest w s p p i
-    = subst (λ (n : ℕ). (i : ℕ) × Greatest w s p n i) (let z : suc (p - 1) ≡ p = omega (arith, r .positive) in z) (greatest r (p - 1) (omega (arith, r .positive))) in
+    = subst (λ (n : ℕ). (i : ℕ) × Greatest w s p n i) (let z : suc (p - 1) ≡ p = omega (arith, r .positive) in z)
+    (greatest r (p - 1) (omega (arith, r .positive))) in
     (q .0, record { after = q .1 .after; upto = q .1 .upto; word = greatest-anti-lyndon r (q .1) })

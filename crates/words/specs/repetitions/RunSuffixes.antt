@@ -1,7 +1,7 @@
--- A run and the Lyndon table. Where the period breaks off before the word ends, the letter there is larger or smaller than the one a period before; the word's end
--- counts as larger (EndsUp). Just then the suffix one period later comes before (suffix-before, suffix-ends-up), and a place of the run whose first period is an
--- anti-Lyndon word has the period as its entry (root-entry, entry-ends-up). There is at most one such place among the first ones (one-root), and an entry that repeats is the
--- smallest period (entry-smallest).
+-- A run and the Lyndon table. Where the period breaks off before the word ends, the letter there is larger or smaller than the one a period before; the
+-- word's end counts as larger (EndsUp). Just then the suffix one period later comes before (suffix-before, suffix-ends-up), and a place of the run whose
+-- first period is an anti-Lyndon word has the period as its entry (root-entry, entry-ends-up). There is at most one such place among the first ones
+-- (one-root), and an entry that repeats is the smallest period (entry-smallest).
 use mathlib.Core.Path.{_≡_, ap, sym, _∙_}
 use mathlib.Core.Logic.{_⊎_, inl, inr}
 use mathlib.Core.List.{List}
@@ -84,24 +84,38 @@ module _ {w : List ℕ} {s e p : ℕ} (r : Run w s e p) where
         run-breaks (omega (arith, length-drop (i + p) w)) (same-letter w (omega arith) ∙ (c ∙ same-letter w (omega arith)));
   }
 
+  -- the letters where they part
+  module _ (l : e < length w) (i : ℕ) (a : s ≤ i) (b : i + p ≤ e) where
+    parts-at : getD (drop i w) (e - i - p) 0 ≡ getD w (e - p) 0
+    parts-at = getD-drop i w (e - i - p) 0 ∙ same-letter w (omega arith)
+
+    parts-later : getD (drop (i + p) w) (e - i - p) 0 ≡ getD w e 0
+    parts-later = getD-drop (i + p) w (e - i - p) 0 ∙ same-letter w (omega arith)
+
+    parts-before : (e - i - p < length (drop i w)) × (e - i - p < length (drop (i + p) w))
+    parts-before = (rw length-drop (omega arith), rw length-drop (omega arith))
+
   pub suffix-before : EndsUp w e p → (i : ℕ) → s ≤ i → i + p ≤ e → drop (i + p) w ≺ drop i w
   suffix-before u i a b = go (decLt e (length w))
     where
-      g : Agree (drop (i + p) w) (drop i w) (e - i - p)
-      g = agree-sym (run-agree i a b)
+      g : Agree (drop i w) (drop (i + p) w) (e - i - p)
+      g = run-agree i a b
 
       go : Dec (e < length w) → drop (i + p) w ≺ drop i w
-      go (no l) = agree-shorter g (rw length-drop (omega (arith, r .inside))) (rw (length-drop, length-drop) (omega (arith, r .positive, r .inside)))
-      go (yes l) = mismatch (agree-≪ (agree-sym g) (rw length-drop (omega arith)) (rw length-drop (omega arith))
-          (rw (getD-drop i w, getD-drop (i + p) w) (omega (arith, u l, same-letter w (let z : i + (e - i - p) ≡ e - p = omega arith in z), same-letter w (let z : i + p + (e - i - p) ≡ e = omega arith in z)))))
+      go (no l) = agree-shorter (agree-sym g) (rw length-drop (omega (arith, r .inside))) (rw (length-drop, length-drop) (omega (arith, r .positive, r .inside)))
+      go (yes l) =
+          let inside = parts-before l i a b in
+          mismatch (agree-≪ g (inside .0) (inside .1) (omega (arith, u l, parts-at l i a b, parts-later l i a b)))
 
   pub suffix-ends-up : (i : ℕ) → s ≤ i → i + p ≤ e → drop (i + p) w ≺ drop i w → EndsUp w e p
   suffix-ends-up i a b h l = go (decLt (getD w (e - p) 0) (getD w e 0))
     where
       go : Dec (getD w (e - p) 0 < getD w e 0) → getD w (e - p) 0 < getD w e 0
       go (yes k) = k
-      go (no k) = absurd (≼-not-≪ (≺-≼ h) (agree-≪ (agree-sym (run-agree i a b)) (rw length-drop (omega arith)) (rw length-drop (omega arith))
-          (rw (getD-drop i w, getD-drop (i + p) w) (let d = run-breaks l in omega (arith, same-letter w (let z : i + (e - i - p) ≡ e - p = omega arith in z), same-letter w (let z : i + p + (e - i - p) ≡ e = omega arith in z))))))
+      go (no k) =
+          let inside = parts-before l i a b in
+          let larger : getD (drop (i + p) w) (e - i - p) 0 < getD (drop i w) (e - i - p) 0 = let d = run-breaks l in omega (arith, parts-at l i a b, parts-later l i a b) in
+          absurd (≼-not-≪ (≺-≼ h) (agree-≪ (agree-sym (run-agree i a b)) (inside .1) (inside .0) larger))
 
 -- ---- entries of the table
 
@@ -171,7 +185,8 @@ module _ {w : List ℕ} {s e p : ℕ} (r : Run w s e p) where
 
 -- an entry that is inside what repeats is the smallest period there
 pub entry-smallest : (w : List ℕ) (s e i : ℕ) → i < length w → s ≤ i → i + entryAt w i ≤ e → (q : ℕ) → 0 < q → q < entryAt w i → ¬ Repeats w s e q
-entry-smallest w s e i l a b q o m h = ≪-not-⊑ (suffix-loses (entry-anti-lyndon w i l) q o (rw size m)) (⊑-letters (drop q u) u (rw length-drop (omega arith)) same)
+entry-smallest w s e i l a b q o m h =
+    ≪-not-⊑ (suffix-loses (entry-anti-lyndon w i l) q o (rw size m)) (⊑-letters (drop q u) u (rw length-drop (omega arith)) same)
   where
     p : ℕ
     p = entryAt w i
@@ -185,4 +200,5 @@ entry-smallest w s e i l a b q o m h = ≪-not-⊑ (suffix-loses (entry-anti-lyn
     same : (t : ℕ) → t < length (drop q u) → getD (drop q u) t 0 ≡ getD u t 0
     same t c =
         let d : t < p - q = omega (arith, length-drop q u, size) in
-        getD-drop q u t 0 ∙ (window-at w i p (q + t) (omega arith) ∙ (sym (repeats-at h (i + t) (i + (q + t)) (omega arith) (omega arith) (omega arith)) ∙ sym (window-at w i p t (omega arith))))
+        let again : getD w (i + t) 0 ≡ getD w (i + (q + t)) 0 = repeats-at h (i + t) (i + (q + t)) (omega arith) (omega arith) (omega arith) in
+        getD-drop q u t 0 ∙ (window-at w i p (q + t) (omega arith) ∙ (sym again ∙ sym (window-at w i p t (omega arith))))

@@ -1,4 +1,5 @@
--- THEOREM runs-fewer (the "Runs" theorem). A word has fewer runs than letters: what is found at the places after the first, at most one run at each, is all of them (found-sorted).
+-- THEOREM runs-fewer (the "Runs" theorem). A word has fewer runs than letters: what is found at the places after the first, at most one run at each, is all
+-- of them (found-sorted).
 use mathlib.Core.Path.{_≡_, refl, ap, sym, subst, _∙_}
 use mathlib.Core.Logic.{_⊎_, inl, inr}
 use mathlib.Core.List.{List, [], _∷_, _++_, List·Memᴰ, List·Memᴰ·head, List·Memᴰ·not-nil, List·Memᴰ·append-cases, Memᴰ·append-left, Memᴰ·append-right}

@@ -1,6 +1,7 @@
--- THEOREM served, serves-one. Every run has a place that serves it, and no other does: the place after its first one if the period is 1; else the one among its first places at which the
--- longest Lyndon word of an order has the period as its length, the order being that in which the run breaks off (the inverse one, if the run ends the word).
--- What is found at a place is the run that the place serves (serves-found, found-serves): so a place serves one run at most.
+-- THEOREM served, serves-one. Every run has a place that serves it, and no other does: the place after its first one if the period is 1; else the one among
+-- its first places at which the longest Lyndon word of an order has the period as its length, the order being that in which the run breaks off (the inverse
+-- one, if the run ends the word). What is found at a place is the run that the place serves (serves-found, found-serves): so a place serves one run at
+-- most.
 use mathlib.Core.Path.{_≡_, refl, ap, sym, _∙_}
 use mathlib.Core.Logic.{_⊎_, inl, inr}
 use mathlib.Core.List.{List, [], _∷_, List·Memᴰ, List·Memᴰ·eq-of-singleton, List·Memᴰ·not-nil}
@@ -124,7 +125,9 @@ module _ (m : ℕ) (w : List ℕ) (b : UpTo m w) where
 
   not-both-orders : {s e p i j : ℕ} → Run w s e p → s < i → i ≤ s + p → s < j → j ≤ s + p → entryAt w i ≡ p → entryAt (reversed m w) j ≡ p → e < length w → ⊥
   not-both-orders {s} {e} {p} {i} {j} r a k c d x y l =
-      omega (arith, entry-ends-up r a k x l, entry-ends-up (reversed-run r) c d y (rw (reversed-length m w) l), reversed-at m w e l, reversed-at m w (e - p) (omega arith))
+      let up = entry-ends-up r a k x l in
+      let down = entry-ends-up (reversed-run r) c d y (rw (reversed-length m w) l) in
+      omega (arith, up, down, reversed-at m w e l, reversed-at m w (e - p) (omega arith))
 
   pub serves-one : (r : Triple) (i j : ℕ) → IsRun w r → Serves m w r i → Serves m w r j → i ≡ j
   serves-one r i j x (by-letter e z) (by-letter f y) = omega arith
@@ -208,14 +211,17 @@ module _ (m : ℕ) (w : List ℕ) (b : UpTo m w) where
           left .stops (omega arith) (omega (arith, c .near))
           (g .equal (i - leftOf w i p - 1) (omega arith) (omega (arith, c .twice, left .equals .inside)));
       right = λ h g.
-          let e : repeatsTo w i p + 1 ≤ repeatsTo w i p = repeats-to-most w i p (repeatsTo w i p + 1) (omega arith) (repeats-part (omega arith) (omega arith) g) in
+          let e : repeatsTo w i p + 1 ≤ repeatsTo w i p
+          = repeats-to-most w i p (repeatsTo w i p + 1) (omega arith) (repeats-part (omega arith) (omega arith) g) in
           omega arith;
     }
 
   -- after the same letter
   same-serves : (i : ℕ) → 0 < i → i < length w → Candidate w i 1 → IsRun w (candidateRun w i 1) × Serves m w (candidateRun w i 1) i
-  same-serves i o l c =
-      (candidate-run i 1 l (omega arith) c (λ q x y. absurd (omega arith)), by-letter refl (omega (arith, c .some, c .near, agree-left-is w 1 2 i .equals .inside)))
+  same-serves i o l c = (
+    candidate-run i 1 l (omega arith) c (λ q x y. absurd (omega arith)),
+    by-letter refl (omega (arith, c .some, c .near, agree-left-is w 1 2 i .equals .inside)),
+  )
 
   -- after another letter
   other-serves : (i : ℕ) → i < length w → ¬ (getD w (i - 1) 0 ≡ getD w i 0) → Candidate w i (longestAt m w i)
@@ -235,7 +241,9 @@ module _ (m : ℕ) (w : List ℕ) (b : UpTo m w) where
       d = longest-inside m w b i l .1
 
       before : getD w (i - 1) 0 ≡ getD w (i + p - 1) 0
-      before = candidate-before i p l d c ∙ same-letter w (let z : i - 1 + p ≡ i + p - 1 = omega (arith, c .some, agree-left-is w p (p + 1) i .equals .inside) in z)
+      before =
+          let z : i - 1 + p ≡ i + p - 1 = omega (arith, c .some, agree-left-is w p (p + 1) i .equals .inside) in
+          candidate-before i p l d c ∙ same-letter w z
 
       after : s < i
       after = omega (arith, c .some, agree-left-is w p (p + 1) i .equals .inside)
@@ -271,7 +279,8 @@ module _ (m : ℕ) (w : List ℕ) (b : UpTo m w) where
   pub found-serves : (r : Triple) (i : ℕ) → 0 < i → i < length w → List·Memᴰ r (foundAt m w i) → IsRun w r × Serves m w r i
   found-serves r i o l h = go (ℕ-discrete (getD w (i - 1) 0) (getD w i 0))
     where
-      is : (p : ℕ) → FoundWith w i p (foundWith w i p) → List·Memᴰ r (foundWith w i p) → (Candidate w i p → IsRun w (candidateRun w i p) × Serves m w (candidateRun w i p) i)
+      is : (p : ℕ) → FoundWith w i p (foundWith w i p) → List·Memᴰ r (foundWith w i p)
+          → (Candidate w i p → IsRun w (candidateRun w i p) × Serves m w (candidateRun w i p) i)
           → IsRun w r × Serves m w r i
       is p f x g = view f x
         where

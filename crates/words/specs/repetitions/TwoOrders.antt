@@ -1,5 +1,6 @@
--- The Lyndon tables of a word in both orders of the letters. The other order is that of the letters taken from a bound m (reversed). THEOREM one-order: at each place one of the two
--- entries is 1. The longer entry tells its order by its last letter (longest-falls, longest-rises): so one list of the longer ones serves for both tables.
+-- The Lyndon tables of a word in both orders of the letters. The other order is that of the letters taken from a bound m (reversed). THEOREM one-order: at
+-- each place one of the two entries is 1. The longer entry tells its order by its last letter (longest-falls, longest-rises): so one list of the longer
+-- ones serves for both tables.
 use mathlib.Core.Path.{_≡_, ap, sym, subst, _∙_}
 use mathlib.Core.Logic.{_⊎_, inl, inr}
 use mathlib.Core.List.{List, _∷_, map}
@@ -153,7 +154,8 @@ module _ (m : ℕ) (w : List ℕ) (b : UpTo m w) where
   reversed-last i l h =
       let k = inside-reversed i l in
       let n = entry-inside (reversed m w) i k in
-      omega (arith, entry-last (reversed m w) i k h, reversed-at m w i l, reversed-at m w (i + entryAt (reversed m w) i - 1) (omega (arith, reversed-length m w)))
+      let last = reversed-at m w (i + entryAt (reversed m w) i - 1) (omega (arith, reversed-length m w)) in
+      omega (arith, entry-last (reversed m w) i k h, reversed-at m w i l, last)
 
   pub longest-inside : (i : ℕ) → i < length w → (0 < longestAt m w i) × (i + longestAt m w i ≤ length w)
   longest-inside i l =

@@ -62,9 +62,6 @@ pub runs-over : (i : ℕ) (w : List ℕ) → runsOver i (stretches w) ≡ map (m
 unfolding separatedRuns
 runs-over i w = ap (λ (j : ℕ). runsOver j (stretches w)) (let z : i ≡ i + 0 = omega arith in z) ∙ runs-over-moved i 0 (stretches w)
 
-pub runs-over-length : (i : ℕ) (w : List ℕ) → length (runsOver i (stretches w)) ≡ length (separatedRuns w)
-runs-over-length i w = ap length (runs-over i w) ∙ length-map (separatedRuns w) (movedRun i)
-
 pub runs-unmarked : (v : List ℕ) → Unmarked v → separatedRuns v ≡ runs v
 unfolding separatedRuns
 runs-unmarked v u = runs-alone 0 v u ∙ moved-none (runs v)

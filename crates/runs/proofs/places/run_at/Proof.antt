@@ -5,6 +5,8 @@ use Prim.Native.Nat.{_+_, _≤_}
 use lib.ListN.{length}
 use borrow.Author.Tests.{not-true, not-false}
 use Rattle.words.specs.orders.Decisions.{decides-true, decides-false}
+use Rattle.words.specs.repetitions.TwoOrders.{UpTo}
+use Rattle.table.specs.Orders.{mostByte}
 use Rattle.runs.proofs.PlaceLaws.{none-left, far-left, too-short, not-counted, one-found, right-inside, period-inside, left-inside}
 use Rattle.runs.proofs.places.run_at.Statement.{statement}
 use Rattle.runs.proofs.places.run_at.Tie as tie
@@ -13,7 +15,8 @@ use Rattle.runs.proofs.places.run_at.Tie as tie
 inside-here : (c : tie.After-period-at) → let a = c .before .before .before .args in a .i + c .period-at .result ≤ length (a .word .now)
 inside-here c =
     let start = c .before .before .before in
-    rw (c .period-at .ensures) (period-inside (start .args .word .now) (λ k. omega (arith, c .before .before .shared-slice-known .given k .fits)) (start .args .i) (start .pre .known .inside))
+    let bytes : UpTo mostByte (start .args .word .now) = λ k. omega (arith, c .before .before .shared-slice-known .given k .fits) in
+    rw (c .period-at .ensures) (period-inside (start .args .word .now) bytes (start .args .i) (start .pre .known .inside))
 
 period-at-requires : tie.Need-period-at-requires
 period-at-requires c κs = search needs
@@ -58,12 +61,14 @@ common-length-requires : tie.Need-common-length-requires
 common-length-requires c κs = search needs
 
 -- the end lies inside
-end-here : (c : tie.After-common-length) → let at-period = c .before .before .before .before .before .before in let a = at-period .before .before .before .args in
+end-here : (c : tie.After-common-length) → let at-period = c .before .before .before .before .before .before in
+    let a = at-period .before .before .before .args in
     a .i + at-period .period-at .result + c .common-length .result ≤ length (a .word .now)
 end-here c =
     let at-period = c .before .before .before .before .before .before in
     let a = at-period .before .before .before .args in
-    right-inside (a .word .now) (a .i) (at-period .period-at .result) (c .before .before .before .before .before .left-of .ensures) (c .common-length .ensures) (inside-here at-period)
+    right-inside (a .word .now) (a .i) (at-period .period-at .result) (c .before .before .before .before .before .left-of .ensures)
+    (c .common-length .ensures) (inside-here at-period)
 
 left-here : (c : tie.After-left-of) → let a = c .before .before .before .before .args in c .left-of .result ≤ a .i
 left-here c = let a = c .before .before .before .before .args in rw (c .left-of .ensures) (left-inside (a .word .now) (a .i) (c .before .period-at .result))

@@ -1,5 +1,5 @@
--- First letters that differ decide; else what follows them does: in the inverse order by its sign; in the natural one the words agree as far as it does, and part
--- there or end.
+-- First letters that differ decide; else what follows them does: in the inverse order by its sign; in the natural one the words agree as far as it does,
+-- and part there or end.
 use borrow.Author.Needs.{needs}
 use borrow.Author.Tests.{not-true, not-false}
 use native.Mathlib.Omega.{arith}
@@ -109,7 +109,8 @@ returns-5 c =
     let left = c .before .before .if4 .left in
     let right = c .before .before .before .if3 .left in
     parted-decide (a .natural) (a .u .now) (a .v .now) (left-bytes letters) (right-bytes letters) g
-    (omega (arith, g .matched .left)) (omega (arith, g .matched .right)) (natural-decides {natural = a .natural} (getD (a .u .now) l 0) (getD (a .v .now) l 0) (not-false _ (c .before .before .before .before .before .if2 .left)))
+    (omega (arith, g .matched .left)) (omega (arith, g .matched .right))
+    (natural-decides {natural = a .natural} (getD (a .u .now) l 0) (getD (a .v .now) l 0) (not-false _ (c .before .before .before .before .before .if2 .left)))
 
 pub comes-before-spec : {M : Type 1} → statement M
 comes-before-spec =
