@@ -33,7 +33,7 @@ pub fn runs(word: &[u8], runs: &mut [u16]) -> Counted
     let Checked::Passed = recorded else {
         return Counted::Refused(recorded.number());
     };
-    let mut longest = [0u16; 4096];
+    let mut longest = [0u16; checks::MOST];
     let room = check_room(word, &mut longest, runs);
     let Checked::Passed = room else {
         return Counted::Refused(room.number());
