@@ -128,7 +128,7 @@ pub record RepetitionsListed (w out : List ℕ) (r : Counted) (out′ : List ℕ
   pub sound : (t : Triple) → List·Memᴰ t listed → IsSeparatedRun w t
   pub complete : (t : Triple) → IsSeparatedRun w t → List·Memᴰ t listed
   -- "Each is listed once, by first place and then by period."
-  pub inOrder : Rising Earlier listed
+  pub in-order : Rising Earlier listed
   -- "a record always has fewer of them than bytes, as the published "Runs" theorem says"
   pub fewer : length listed < length w
   -- "The call answers with the number of repetitions"

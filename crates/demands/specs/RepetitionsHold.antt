@@ -26,7 +26,7 @@ repetitions-listed w out out′ r f none = record {
   listed = separatedRuns w;
   sound = separated-runs-sound w;
   complete = separated-runs-complete w;
-  inOrder = separated-runs-rising w;
+  in-order = separated-runs-rising w;
   fewer = separated-runs-fewer w (accepted w _ none .nonempty);
   count = rw none at (f .answer);
   entries = rw none at (f .result);
@@ -34,7 +34,7 @@ repetitions-listed w out out′ r f none = record {
 
 module _ {w out out′ : List ℕ} {r : Counted} (h : RepetitionsListed w out r out′) where
   listed-only : h .listed ≡ separatedRuns w
-  listed-only = separated-runs-unique w (h .listed) (h .inOrder) (h .sound) (h .complete)
+  listed-only = separated-runs-unique w (h .listed) (h .in-order) (h .sound) (h .complete)
 
   pub count-only : r ≡ Counted.Count (length (separatedRuns w))
   count-only = h .count ∙ ap (λ (ts : List Triple). Counted.Count (length ts)) listed-only

@@ -1,4 +1,4 @@
--- The theory of a word's two factorizations. Definitions that a reader must believe stand in five files; all else is proved.
+-- The theory of a word's two factorizations and of its runs. Definitions that a reader must believe stand in six files; all else is proved.
 --
 --   name                          paper 01                    source 004           meaning
 --   Words
@@ -34,6 +34,10 @@
 --     separatedIcfl, separatedCflIn, separatedTable, separatedBreaks               icfl, cflIn, lyndonTable and the breaks of a record, by stretches
 --     SeparatedOf                                                                  a division into separators and words of a kind
 --     SeparatedDemand3            demand 3                                         of a record with separators
+--   Runs (request 107)
+--     Repeats, Run                repetition                                       maximal repetition: first place, end, smallest period
+--     runs, isRun, repeatsTo                                                       all of them, by first place and then by period
+--     separatedRuns, SeparatedRun                                                  the same of a record, by stretches
 --
 -- The laws stand in folders by subject; the file beside a folder says what is in it.
 --   orders       ⊑, ≪, <ₗ, ≺, the sign, how far words agree; tests that decide
@@ -45,7 +49,7 @@
 --   places       lists of words by their ends; demand 3
 --   scan         what the loops of the cuts and of the test know
 --   table        the Lyndon table
---   repetitions  runs, or maximal repetitions: the list has each, once, in order
+--   repetitions  runs, or maximal repetitions: the list of them, the Runs theorem, and how they are found
 --   stretches    all this of records with separators
 pub mod Words
 pub mod Factorizations
