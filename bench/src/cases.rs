@@ -38,7 +38,14 @@ impl Case {
         let agreement = |&start: &usize| metsroeb::compare_suffixes(&record, 0, n, 0, start).unwrap().common;
         let starts = [0, (1..n).rev().max_by_key(agreement).unwrap()];
         let run_entries = 3 * metsroeb_tests::peer::runs(&record, &mut vec![0; 3 * n]).unwrap().len();
-        Case { batches: [64, 256, n].map(|length| Batch::new(make, n, number, length)), strict_ends, run_entries, starts, end: n, record }
+        Case {
+            batches: [64, 256, n].map(|length| Batch::new(make, n, number, length)),
+            strict_ends,
+            run_entries,
+            starts,
+            end: n,
+            record,
+        }
     }
 }
 

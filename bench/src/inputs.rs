@@ -22,8 +22,6 @@ pub const INPUTS: &[Input] = &[
         word[n - 1] = b'b';
         word
     }),
-    ("(dc)^k c (dc)^k", 1, |n, _| powers(b"dc", n / 4, n)),
-    ("(dc)^k c (dc)^k c (dc)^(k/6)", 1, |n, _| powers(b"dc", n * 3 / 13, n)),
     ("falling ramp", 1, |n, _| (0..n).map(|i| (254 - i * 255 / n) as u8).collect()),
     ("rising plateaus", 1, |n, _| (0..n).map(|i| (i * 64 / n) as u8).collect()),
     ("a^(n-1) b", 1, |n, _| {
@@ -42,6 +40,15 @@ pub const INPUTS: &[Input] = &[
         word
     }),
 ];
+
+/// What the repetitions are timed on besides.
+pub const RUN_INPUTS: &[Input] = &[
+    ("(dc)^k c (dc)^k", 1, |n, _| powers(b"dc", n / 4, n)),
+    ("(dc)^k c (dc)^k c (dc)^(k/6)", 1, |n, _| powers(b"dc", n * 3 / 13, n)),
+];
+
+/// How many records of a kind take turns where a call takes a tenth of a millisecond.
+pub const MOST_LONG: usize = 8;
 
 /// Powers of two letters, with the second of them once more behind each: the repetitions' worst case, and its like.
 fn powers(root: &[u8; 2], exponent: usize, length: usize) -> Vec<u8> {

@@ -10,7 +10,7 @@ mod inputs;
 use cases::{Buffers, Case};
 #[cfg(earlier)]
 use earlier as other;
-use inputs::{two_starts, INPUTS, STARTS, TWO_STARTS};
+use inputs::{two_starts, INPUTS, MOST_LONG, RUN_INPUTS, STARTS, TWO_STARTS};
 #[cfg(not(earlier))]
 use metsroeb_tests::peer as other;
 use metsroeb_tests::peer::by_eights;
@@ -192,7 +192,9 @@ fn main() {
     let wanted = std::env::args().nth(1).unwrap_or_default();
     let [pairs, comparisons] = pairs().map(|pairs| pairs.into_iter().filter(|(name, _)| name.contains(&wanted)));
     for (name, sides) in pairs {
-        for &(kind, count, make) in INPUTS {
+        let of_runs = name.contains("runs");
+        for &(kind, count, make) in INPUTS.iter().chain(RUN_INPUTS.iter().filter(|_| of_runs)) {
+            let count = if of_runs { count.min(MOST_LONG) } else { count };
             let cases = |n| (0..count).map(|k| Case::new(make, n, k)).collect();
             print(name, kind, measure(sides, |n| Bench { cases: cases(n), lent: Buffers::new(n), drawn: None }));
         }
