@@ -2,31 +2,37 @@
 -- of those before, leads to the whole batch.
 use mathlib.Core.Path.{_≡_, refl, ap, sym, _∙_}
 use mathlib.Core.List.{List, [], _∷_, _++_, map, map-append, append-assoc}
-use Prim.Native.Nat.{ℕ, suc, _+_, _-_, _≤_, _<_}
+use Prim.Native.Nat.{ℕ, suc, _+_, _-_, _*_, _≤_, _<_}
 use native.Mathlib.Numerals.{add-one}
 use native.Mathlib.Omega.{arith}
 use lib.ListN.{length, take, drop, getD, set, replicate, length-map, length-append, length-drop, drop-of-length-le}
 use lib.Seq.{slice, drop-cons, set-at, length-take-le}
+use Rattle.words.specs.Words.{mostLetters}
+use Rattle.words.specs.Pairs.{separatedPairs}
+use Rattle.words.specs.places.EndsRise.{rises-few}
+use Rattle.words.specs.stretches.Factors.{separated-icfl-ends-rise}
+use Rattle.words.specs.stretches.RecordPairs.{pairs-entries}
 use Rattle.buffers.proofs.PartLaws.{part, part-is, rest, rest-is, rest-back}
 use Rattle.checks.specs.Lines.{tried, mostRecords}
 use Rattle.checks.specs.Answers.{numberOf}
 use Rattle.checks.specs.declared.Checked.{Checked}
 use Rattle.checks.specs.declared.Checked.the-variants.{Passed}
 use Rattle.checks.specs.declared.Counted.{Counted}
-use Rattle.checks.proofs.LineLaws.{IsRefused, refused, unmet, filled-front}
+use Rattle.checks.proofs.LineLaws.{IsRefused, refused, unmet, filled-counted}
+use Rattle.checks.proofs.RecordLaws.{accepted}
 use Rattle.checks.proofs.RecordEndsLaws.{Climbs, climbs-head, climbs-tail, climbs-most, listed}
 use Rattle.icfl.specs.Icfl.{IcflDone}
 use Rattle.batch.specs.Batch.{recordsFrom, Progress, entriesUsed, cutRecord, cutRecords, batchOf, place, batchWith, batchLines, BatchDone}
 use Rattle.batch.specs.declared.Batch.{Batch}
 use Rattle.batch.specs.declared.Place.{Place}
 
-pub batch-refused : (bytes es work ends : List ℕ) {k : Checked} {m : ℕ} → k ≡ tried (batchLines es (length bytes)) → IsRefused k → m ≡ numberOf k
-    → BatchDone bytes es work ends (batchWith m []) work ends
-batch-refused bytes es work ends e h z =
+pub batch-refused : (bytes es work pairs : List ℕ) {k : Checked} {m : ℕ} → k ≡ tried (batchLines es (length bytes)) → IsRefused k → m ≡ numberOf k
+    → BatchDone bytes es work pairs (batchWith m []) work pairs
+batch-refused bytes es work pairs e h z =
     let lines = batchLines es (length bytes) in
     record {
       answer = refused lines _ (λ (i : ℕ). batchWith i []) e h z;
-      result = refused lines _ (λ (i : ℕ). ends) e h z;
+      result = refused lines _ (λ (i : ℕ). pairs) e h z;
       worked = refused lines _ (λ (i : ℕ). work) e h z;
     }
 
@@ -50,40 +56,48 @@ placed-next answers a {i} n l =
 
 -- an answer uses no more entries than the buffer has
 used-fits : {w work left : List ℕ} {a : Counted} {work₁ left₁ : List ℕ} → IcflDone w work left a work₁ left₁ → entriesUsed a ≤ length left₁
-used-fits {a = Counted.Count n} d = filled-front (d .filled) .1
+used-fits {w} {left = left} {a = Counted.Count n} d =
+    let f = filled-counted (d .filled) in
+    omega (arith, f .1, ap length (f .2), length-append (separatedPairs w) (drop (length (separatedPairs w)) left), pairs-entries w)
 used-fits {a = Counted.Refused number} d = omega arith
 
-pub record Cutting (bytes es work₀ ends₀ work ends : List ℕ) (r : Batch) (from used i : ℕ) : Type 0 where
+pub used-few : {w work left : List ℕ} {a : Counted} {work₁ left₁ : List ℕ} → IcflDone w work left a work₁ left₁ → entriesUsed a ≤ 2 * mostLetters
+used-few {w} {a = Counted.Count n} d =
+    let f = filled-counted (d .filled) in
+    omega (arith, f .1, accepted w _ (f .0) .short, rises-few (separated-icfl-ends-rise w))
+used-few {a = Counted.Refused number} d = omega arith
+
+pub record Cutting (bytes es work₀ pairs₀ work pairs : List ℕ) (r : Batch) (from used i : ℕ) : Type 0 where
   pub answers : List Counted
   pub count : length answers ≡ i
   pub placed : r ≡ batchWith 0 answers
-  pub on : cutRecords (record { answers = answers; work = work; ends = ends; used = used }) (recordsFrom from (drop i es) bytes) ≡ batchOf bytes es work₀ ends₀
+  pub on : cutRecords (record { answers = answers; work = work; pairs = pairs; used = used }) (recordsFrom from (drop i es) bytes) ≡ batchOf bytes es work₀ pairs₀
   pub climbs : Climbs (length bytes) from (drop i es)
   pub few : length es ≤ mostRecords
   pub inside : i ≤ length es
-  pub room : used ≤ length ends
+  pub room : used ≤ length pairs
 
-pub cutting-starts : (bytes es work ends : List ℕ) → tried (batchLines es (length bytes)) ≡ Passed → Cutting bytes es work ends work ends (batchWith 0 []) 0 0 0
-cutting-starts bytes es work ends p =
+pub cutting-starts : (bytes es work pairs : List ℕ) → tried (batchLines es (length bytes)) ≡ Passed → Cutting bytes es work pairs work pairs (batchWith 0 []) 0 0 0
+cutting-starts bytes es work pairs p =
     let l = listed es (length bytes) (unmet (batchLines es (length bytes)) p .0) in
     record { answers = []; count = refl; placed = refl; on = refl; climbs = l .climbs; few = l .few; inside = omega arith; room = omega arith }
 
-module _ {bytes es work₀ ends₀ work ends : List ℕ} {r : Batch} {from used i : ℕ} (g : Cutting bytes es work₀ ends₀ work ends r from used i) where
-  pub cutting-ends : tried (batchLines es (length bytes)) ≡ Passed → length es ≤ i → BatchDone bytes es work₀ ends₀ r work ends
+module _ {bytes es work₀ pairs₀ work pairs : List ℕ} {r : Batch} {from used i : ℕ} (g : Cutting bytes es work₀ pairs₀ work pairs r from used i) where
+  pub cutting-ends : tried (batchLines es (length bytes)) ≡ Passed → length es ≤ i → BatchDone bytes es work₀ pairs₀ r work pairs
   unfolding recordsFrom cutRecords
   cutting-ends p l =
       let none : drop i es ≡ [] = drop-of-length-le es {i = i} l in
-      let whole = ap (λ (t : List ℕ). cutRecords (record { answers = g .answers; work = work; ends = ends; used = used }) (recordsFrom from t bytes)) (sym none) ∙ g .on in
+      let whole = ap (λ (t : List ℕ). cutRecords (record { answers = g .answers; work = work; pairs = pairs; used = used }) (recordsFrom from t bytes)) (sym none) ∙ g .on in
       record {
         answer = rw p (g .placed ∙ ap (λ (q : Progress). batchWith 0 (q .answers)) whole);
-        result = rw p (ap (λ (q : Progress). q .ends) whole);
+        result = rw p (ap (λ (q : Progress). q .pairs) whole);
         worked = rw p (ap (λ (q : Progress). q .work) whole);
       }
 
   -- the entries that the next answer uses are among those left
-  pub lent-room : {w : List ℕ} {a : Counted} {n : ℕ} {work₁ left₁ : List ℕ} → IcflDone w work (rest used ends) a work₁ left₁ → n ≡ entriesUsed a
-      → length left₁ ≡ length (rest used ends) → used + n ≤ length ends
-  lent-room d z k = omega (arith, z, k, used-fits d, ap length (rest-is used ends), length-drop used ends, g .room)
+  pub lent-room : {w : List ℕ} {a : Counted} {n : ℕ} {work₁ left₁ : List ℕ} → IcflDone w work (rest used pairs) a work₁ left₁ → n ≡ entriesUsed a
+      → length left₁ ≡ length (rest used pairs) → used + n ≤ length pairs
+  lent-room d z k = omega (arith, z, k, used-fits d, ap length (rest-is used pairs), length-drop used pairs, g .room)
 
   module _ (l : i < length es) where
     next : drop i es ≡ getD es i 0 ∷ drop (i + 1) es
@@ -99,23 +113,23 @@ module _ {bytes es work₀ ends₀ work ends : List ℕ} {r : Batch} {from used 
     pub record-end : getD es i 0 ≤ length bytes
     record-end = climbs-most (climbs-tail climbs-on)
 
-    pub cutting-on : {a : Counted} {work₁ left₁ : List ℕ} → IcflDone (slice from (getD es i 0) bytes) work (drop used ends) a work₁ left₁
-        → Cutting bytes es work₀ ends₀ work₁ (take used ends ++ left₁) (placedAt i a r) (getD es i 0) (used + entriesUsed a) (i + 1)
+    pub cutting-on : {a : Counted} {work₁ left₁ : List ℕ} → IcflDone (slice from (getD es i 0) bytes) work (drop used pairs) a work₁ left₁
+        → Cutting bytes es work₀ pairs₀ work₁ (take used pairs ++ left₁) (placedAt i a r) (getD es i 0) (used + entriesUsed a) (i + 1)
     unfolding recordsFrom cutRecords cutRecord
     cutting-on {a} {work₁} {left₁} d = record {
       answers = g .answers ++ a ∷ [];
       count = length-append (g .answers) (a ∷ []) ∙ omega (arith, g .count);
       placed = ap (placedAt i a) (g .placed) ∙ placed-next (g .answers) a (g .count) (omega (arith, g .few));
       on = rw (d .filled .answer, d .filled .result, d .worked)
-          (ap (λ (t : List ℕ). cutRecords (record { answers = g .answers; work = work; ends = ends; used = used }) (recordsFrom from t bytes)) (sym next) ∙ g .on);
+          (ap (λ (t : List ℕ). cutRecords (record { answers = g .answers; work = work; pairs = pairs; used = used }) (recordsFrom from t bytes)) (sym next) ∙ g .on);
       climbs = climbs-tail climbs-on;
       few = g .few;
       inside = omega arith;
-      room = rw (length-append (take used ends) left₁, length-take-le used ends (g .room)) (omega (arith, used-fits d));
+      room = rw (length-append (take used pairs) left₁, length-take-le used pairs (g .room)) (omega (arith, used-fits d));
     }
 
     -- the same, as the code lends the record and what is left of the result buffer
-    pub lent-on : {a : Counted} {n : ℕ} {work₁ left₁ : List ℕ} → IcflDone (part from (getD es i 0) bytes) work (rest used ends) a work₁ left₁ → n ≡ entriesUsed a
-        → Cutting bytes es work₀ ends₀ work₁ (take used ends ++ (left₁ ++ drop (length ends - used) (drop used ends))) (placedAt i a r) (getD es i 0) (used + n)
+    pub lent-on : {a : Counted} {n : ℕ} {work₁ left₁ : List ℕ} → IcflDone (part from (getD es i 0) bytes) work (rest used pairs) a work₁ left₁ → n ≡ entriesUsed a
+        → Cutting bytes es work₀ pairs₀ work₁ (take used pairs ++ (left₁ ++ drop (length pairs - used) (drop used pairs))) (placedAt i a r) (getD es i 0) (used + n)
         (i + 1)
-    lent-on {left₁ = left₁} d z = rw (rest-back used ends left₁, z) (cutting-on (rw (part-is from (getD es i 0) bytes, rest-is used ends) at d))
+    lent-on {left₁ = left₁} d z = rw (rest-back used pairs left₁, z) (cutting-on (rw (part-is from (getD es i 0) bytes, rest-is used pairs) at d))

@@ -1,5 +1,5 @@
 -- The fold over the records: the answers it adds (added, batch-answers), of which each is a single call's (every-added); and what it leaves of both buffers, said
--- of all records at once (folded-ends, folded-work).
+-- of all records at once (folded-pairs, folded-work).
 use mathlib.Core.Path.{_≡_, refl, ap, sym, _∙_}
 use mathlib.Core.Bool.{Bool, true, false}
 use mathlib.Core.List.{List, [], _∷_, _++_, append-assoc, append-nil}
@@ -10,6 +10,8 @@ use lib.ListN.{length, take, drop, take-append-drop, length-append}
 use lib.Seq.{take-at, drop-at, drop-drop, length-take-le}
 use lib.Dec.{eqb}
 use Rattle.words.specs.Separated.{separatedIcflEnds}
+use Rattle.words.specs.Pairs.{separatedPairs}
+use Rattle.words.specs.stretches.RecordPairs.{pairs-entries}
 use Rattle.buffers.specs.Buffers.{cleared, written}
 use Rattle.buffers.proofs.BufferLaws.{cleared-twice}
 use Rattle.checks.specs.Lines.{Line, tried, decided}
@@ -18,13 +20,13 @@ use Rattle.checks.specs.declared.Checked.the-variants.{Passed, Refused}
 use Rattle.checks.specs.declared.Counted.{Counted}
 use Rattle.icfl.specs.Icfl.{icflLines, workAfter}
 use Rattle.batch.specs.Batch.{icflAnswer, icflWork, Progress, entriesUsed, cutRecord, cutRecords, recordsFrom, uncut, batchOf}
-use Rattle.batch.specs.BatchStatements.{wasCut, longestCut, packedEnds}
+use Rattle.batch.specs.BatchStatements.{wasCut, longestCut, packedPairs}
 
 -- ---- the answers
 
 -- what is left of the result buffer
 abbrev pub left : Progress → List ℕ
-left p = drop (p .used) (p .ends)
+left p = drop (p .used) (p .pairs)
 
 -- the answers that the records add
 unfoldable pub added : Progress → List (List ℕ) → List Counted
@@ -37,8 +39,8 @@ unfolding added cutRecords cutRecord
 answers-split p [] = sym (append-nil (p .answers))
 answers-split p (w ∷ ws) = answers-split (cutRecord p w) ws ∙ append-assoc (p .answers) _ (added (cutRecord p w) ws)
 
-pub batch-answers : (bytes es work ends : List ℕ) → batchOf bytes es work ends .answers ≡ added (uncut work ends) (recordsFrom 0 es bytes)
-batch-answers bytes es work ends = answers-split (uncut work ends) (recordsFrom 0 es bytes)
+pub batch-answers : (bytes es work pairs : List ℕ) → batchOf bytes es work pairs .answers ≡ added (uncut work pairs) (recordsFrom 0 es bytes)
+batch-answers bytes es work pairs = answers-split (uncut work pairs) (recordsFrom 0 es bytes)
 
 added-length : (p : Progress) (ws : List (List ℕ)) → length (added p ws) ≡ length ws
 unfolding added
@@ -51,16 +53,16 @@ records-count a [] bytes = refl
 records-count a (e ∷ es) bytes = ap suc (records-count e es bytes)
 
 -- one answer for each record end
-pub batch-count : (bytes es work ends : List ℕ) → length (batchOf bytes es work ends .answers) ≡ length es
-batch-count bytes es work ends =
-    ap length (batch-answers bytes es work ends) ∙ added-length (uncut work ends) (recordsFrom 0 es bytes) ∙ records-count 0 es bytes
+pub batch-count : (bytes es work pairs : List ℕ) → length (batchOf bytes es work pairs .answers) ≡ length es
+batch-count bytes es work pairs =
+    ap length (batch-answers bytes es work pairs) ∙ added-length (uncut work pairs) (recordsFrom 0 es bytes) ∙ records-count 0 es bytes
 
 -- P holds of each answer
 abbrev pub Every : (Counted → Type 0) → List Counted → Type 0
 Every P [] = Unit {0}
 Every P (a ∷ answers) = P a × Every P answers
 
-pub every-added : (P : Counted → Type 0) → ((w work ends : List ℕ) → P (icflAnswer w work ends)) → (p : Progress) (ws : List (List ℕ)) → Every P (added p ws)
+pub every-added : (P : Counted → Type 0) → ((w work pairs : List ℕ) → P (icflAnswer w work pairs)) → (p : Progress) (ws : List (List ℕ)) → Every P (added p ws)
 unfolding added
 every-added P h p [] = tt
 every-added P h p (w ∷ ws) = (h w (p .work) (left p), every-added P h (cutRecord p w) ws)
@@ -68,9 +70,9 @@ every-added P h p (w ∷ ws) = (h w (p .work) (left p), every-added P h (cutReco
 -- ---- the work buffer
 
 -- one record
-single-work : (w work ends : List ℕ)
-    → icflWork w work ends ≡ cleared (3 * (elim (wasCut (icflAnswer w work ends)) [ true ↦ length w | false ↦ 0 ])) work
-single-work w work ends = go (tried (icflLines w (length work) (length ends)))
+single-work : (w work pairs : List ℕ)
+    → icflWork w work pairs ≡ cleared (3 * (elim (wasCut (icflAnswer w work pairs)) [ true ↦ length w | false ↦ 0 ])) work
+single-work w work pairs = go (tried (icflLines w (length work) (length pairs)))
   where
     by-four : (t : Bool) → elim t [ true ↦ cleared (3 * length w) work | false ↦ work ] ≡ cleared (3 * (elim t [ true ↦ length w | false ↦ 0 ])) work
     by-four true = refl
@@ -95,18 +97,18 @@ folded-work p (w ∷ ws) =
 
 -- ---- the result buffer: vs stand behind the first u entries, and rest behind these
 
-module _ (u : ℕ) (ends vs : List ℕ) (l : u ≤ length ends) where
-  behind-length : length (take u ends ++ vs) ≡ u + length vs
-  behind-length = length-append (take u ends) vs ∙ omega (arith, length-take-le u ends l)
+module _ (u : ℕ) (pairs vs : List ℕ) (l : u ≤ length pairs) {n : ℕ} (e : n ≡ length vs) where
+  behind-length : length (take u pairs ++ vs) ≡ u + length vs
+  behind-length = length-append (take u pairs) vs ∙ omega (arith, length-take-le u pairs l)
 
-  again : take u ends ++ written vs (drop u ends) ≡ (take u ends ++ vs) ++ drop (length vs) (drop u ends)
-  again = sym (append-assoc (take u ends) vs (drop (length vs) (drop u ends)))
+  again : take u pairs ++ written vs (drop u pairs) ≡ (take u pairs ++ vs) ++ drop (length vs) (drop u pairs)
+  again = sym (append-assoc (take u pairs) vs (drop (length vs) (drop u pairs)))
 
-  pub written-take : take (u + length vs) (take u ends ++ written vs (drop u ends)) ≡ take u ends ++ vs
-  written-take = ap (take (u + length vs)) again ∙ take-at (take u ends ++ vs) _ (u + length vs) behind-length
+  pub written-take : take (u + n) (take u pairs ++ written vs (drop u pairs)) ≡ take u pairs ++ vs
+  written-take = ap (take (u + n)) again ∙ take-at (take u pairs ++ vs) _ (u + n) (rw e behind-length)
 
-  pub written-drop : drop (u + length vs) (take u ends ++ written vs (drop u ends)) ≡ drop (length vs) (drop u ends)
-  written-drop = ap (drop (u + length vs)) again ∙ drop-at (take u ends ++ vs) _ (u + length vs) behind-length
+  pub written-drop : drop (u + n) (take u pairs ++ written vs (drop u pairs)) ≡ drop (length vs) (drop u pairs)
+  written-drop = ap (drop (u + n)) again ∙ drop-at (take u pairs ++ vs) _ (u + n) (rw e behind-length)
 
 -- one list after another is written as the two joined
 written-both : (vs ws buffer : List ℕ) → vs ++ written ws (drop (length vs) buffer) ≡ written (vs ++ ws) buffer
@@ -118,7 +120,7 @@ written-both vs ws buffer =
 
 -- no more is used than there is
 abbrev pub Fits : Progress → Type 0
-Fits p = p .used ≤ length (p .ends)
+Fits p = p .used ≤ length (p .pairs)
 
 abbrev pub linesOf : Progress → List ℕ → List Line
 linesOf p w = icflLines w (length (p .work)) (length (left p))
@@ -126,12 +128,16 @@ linesOf p w = icflLines w (length (p .work)) (length (left p))
 abbrev pub answerBy : Checked → List ℕ → Counted
 answerBy k w = decided k (Counted.Count (length (separatedIcflEnds w))) Counted.Refused
 
+-- the entries of a record that was cut
+pub entries-are : (w : List ℕ) → 2 * length (separatedIcflEnds w) ≡ length (separatedPairs w)
+entries-are w = sym (pairs-entries w)
+
 -- the next record, where the lines say k
 abbrev pub cutBy : Checked → Progress → List ℕ → Progress
 cutBy k p w = record {
   answers = p .answers ++ answerBy k w ∷ [];
   work = decided k (cleared (3 * length w) (p .work)) (workAfter (3 * length w) (p .work));
-  ends = take (p .used) (p .ends) ++ decided k (written (separatedIcflEnds w) (left p)) (λ number. left p);
+  pairs = take (p .used) (p .pairs) ++ decided k (written (separatedPairs w) (left p)) (λ number. left p);
   used = p .used + entriesUsed (answerBy k w);
 }
 
@@ -140,29 +146,31 @@ unfolding cutRecord
 cut-by p w = refl
 
 pub fits-by : (k : Checked) (p : Progress) (w : List ℕ) → Fits p → Fits (cutBy k p w)
-fits-by Passed p w l = rw (again (p .used) (p .ends) (separatedIcflEnds w) l, length-append, behind-length (p .used) (p .ends) (separatedIcflEnds w) l) (omega arith)
-fits-by (Refused number) p w l = rw (take-append-drop (p .used) (p .ends)) (omega (arith, l))
+fits-by Passed p w l =
+    let e = entries-are w in
+    rw (again (p .used) (p .pairs) (separatedPairs w) l e, length-append, behind-length (p .used) (p .pairs) (separatedPairs w) l e) (omega (arith, e))
+fits-by (Refused number) p w l = rw (take-append-drop (p .used) (p .pairs)) (omega (arith, l))
 
-pub folded-ends : (p : Progress) (ws : List (List ℕ)) → Fits p
-    → cutRecords p ws .ends ≡ take (p .used) (p .ends) ++ written (packedEnds ws (added p ws)) (left p)
-unfolding added cutRecords cutRecord packedEnds
-folded-ends p [] l = sym (take-append-drop (p .used) (p .ends))
-folded-ends p (w ∷ ws) l = go (tried (linesOf p w)) (folded-ends (cutRecord p w) ws (fits-by (tried (linesOf p w)) p w l))
+pub folded-pairs : (p : Progress) (ws : List (List ℕ)) → Fits p
+    → cutRecords p ws .pairs ≡ take (p .used) (p .pairs) ++ written (packedPairs ws (added p ws)) (left p)
+unfolding added cutRecords cutRecord packedPairs
+folded-pairs p [] l = sym (take-append-drop (p .used) (p .pairs))
+folded-pairs p (w ∷ ws) l = go (tried (linesOf p w)) (folded-pairs (cutRecord p w) ws (fits-by (tried (linesOf p w)) p w l))
   where
     go : (k : Checked) → (let q = cutBy k p w in
-        cutRecords q ws .ends ≡ take (q .used) (q .ends) ++ written (packedEnds ws (added q ws)) (left q)
-        → cutRecords q ws .ends ≡ take (p .used) (p .ends) ++ written (packedEnds (w ∷ ws) (answerBy k w ∷ added q ws)) (left p))
+        cutRecords q ws .pairs ≡ take (q .used) (q .pairs) ++ written (packedPairs ws (added q ws)) (left q)
+        → cutRecords q ws .pairs ≡ take (p .used) (p .pairs) ++ written (packedPairs (w ∷ ws) (answerBy k w ∷ added q ws)) (left p))
     go Passed ih =
         let u = p .used in
-        let vs = separatedIcflEnds w in
-        let more = packedEnds ws (added (cutBy Passed p w) ws) in
+        let vs = separatedPairs w in
+        let more = packedPairs ws (added (cutBy Passed p w) ws) in
         ih
-        ∙ ap (λ (t : List ℕ). t ++ written more (left (cutBy Passed p w))) (written-take u (p .ends) vs l)
-        ∙ ap (λ (t : List ℕ). (take u (p .ends) ++ vs) ++ written more t) (written-drop u (p .ends) vs l)
-        ∙ append-assoc (take u (p .ends)) vs (written more (drop (length vs) (left p)))
-        ∙ ap (λ (t : List ℕ). take u (p .ends) ++ t) (written-both vs more (left p))
+        ∙ ap (λ (t : List ℕ). t ++ written more (left (cutBy Passed p w))) (written-take u (p .pairs) vs l (entries-are w))
+        ∙ ap (λ (t : List ℕ). (take u (p .pairs) ++ vs) ++ written more t) (written-drop u (p .pairs) vs l (entries-are w))
+        ∙ append-assoc (take u (p .pairs)) vs (written more (drop (length vs) (left p)))
+        ∙ ap (λ (t : List ℕ). take u (p .pairs) ++ t) (written-both vs more (left p))
     go (Refused number) ih =
-        let more = packedEnds ws (added (cutBy (Refused number) p w) ws) in
+        let more = packedPairs ws (added (cutBy (Refused number) p w) ws) in
         ih
-        ∙ ap (λ (t : List ℕ). take (p .used + 0) t ++ written more (drop (p .used + 0) t)) (take-append-drop (p .used) (p .ends))
-        ∙ ap (λ (n : ℕ). take n (p .ends) ++ written more (drop n (p .ends))) (add-zero (p .used))
+        ∙ ap (λ (t : List ℕ). take (p .used + 0) t ++ written more (drop (p .used + 0) t)) (take-append-drop (p .used) (p .pairs))
+        ∙ ap (λ (n : ℕ). take n (p .pairs) ++ written more (drop n (p .pairs))) (add-zero (p .used))

@@ -5,6 +5,7 @@ use Prim.Native.Nat.{ℕ, _+_, _-_, _*_}
 use lib.ListN.{length, take, drop, replicate}
 use lib.Seq.{slice}
 use Rattle.words.specs.Separated.{separatedIcflEnds}
+use Rattle.words.specs.Pairs.{separatedPairs}
 use Rattle.buffers.specs.Buffers.{cleared, written}
 use Rattle.checks.specs.Lines.{Line, _unless_then_, mostRecords, recordEndsLine}
 use Rattle.checks.specs.declared.Counted.{Counted}
@@ -14,14 +15,14 @@ use Rattle.batch.specs.declared.Place.{Place}
 
 -- ---- the single call: its answer, and what it leaves of each buffer, as in IcflDone
 
-abbrev pub icflAnswer : (w work ends : List ℕ) → Counted
-icflAnswer w work ends = Counted.Count (length (separatedIcflEnds w)) unless icflLines w (length work) (length ends) then Counted.Refused
+abbrev pub icflAnswer : (w work pairs : List ℕ) → Counted
+icflAnswer w work pairs = Counted.Count (length (separatedIcflEnds w)) unless icflLines w (length work) (length pairs) then Counted.Refused
 
-abbrev pub icflResult : (w work ends : List ℕ) → List ℕ
-icflResult w work ends = written (separatedIcflEnds w) ends unless icflLines w (length work) (length ends) then (λ number. ends)
+abbrev pub icflResult : (w work pairs : List ℕ) → List ℕ
+icflResult w work pairs = written (separatedPairs w) pairs unless icflLines w (length work) (length pairs) then (λ number. pairs)
 
-abbrev pub icflWork : (w work ends : List ℕ) → List ℕ
-icflWork w work ends = cleared (3 * length w) work unless icflLines w (length work) (length ends) then workAfter (3 * length w) work
+abbrev pub icflWork : (w work pairs : List ℕ) → List ℕ
+icflWork w work pairs = cleared (3 * length w) work unless icflLines w (length work) (length pairs) then workAfter (3 * length w) work
 
 -- ---- the records, and their cutting
 
@@ -34,22 +35,22 @@ recordsFrom a (e ∷ es) bytes = slice a e bytes ∷ recordsFrom e es bytes
 pub record Progress : Type 0 where
   pub answers : List Counted
   pub work : List ℕ
-  pub ends : List ℕ
+  pub pairs : List ℕ
   pub used : ℕ
 
--- the entries that an answer uses: "A refused record uses none of it"
+-- the entries that an answer uses, a pair for each piece (request 108); "A refused record uses none of it"
 abbrev pub entriesUsed : Counted → ℕ
-entriesUsed (Counted.Count n) = n
+entriesUsed (Counted.Count n) = 2 * n
 entriesUsed (Counted.Refused number) = 0
 
 -- the next record: "Each record's answer, refusal included, is the one a single call gives with what is left of the result buffer."
 unfoldable pub cutRecord : Progress → List ℕ → Progress
 cutRecord p w =
-    let left = drop (p .used) (p .ends) in
+    let left = drop (p .used) (p .pairs) in
     record {
       answers = p .answers ++ icflAnswer w (p .work) left ∷ [];
       work = icflWork w (p .work) left;
-      ends = take (p .used) (p .ends) ++ icflResult w (p .work) left;
+      pairs = take (p .used) (p .pairs) ++ icflResult w (p .work) left;
       used = p .used + entriesUsed (icflAnswer w (p .work) left);
     }
 
@@ -60,11 +61,11 @@ cutRecords p [] = p
 cutRecords p (w ∷ ws) = cutRecords (cutRecord p w) ws
 
 -- before the first record
-abbrev pub uncut : (work ends : List ℕ) → Progress
-uncut work ends = record { answers = []; work = work; ends = ends; used = 0 }
+abbrev pub uncut : (work pairs : List ℕ) → Progress
+uncut work pairs = record { answers = []; work = work; pairs = pairs; used = 0 }
 
-abbrev pub batchOf : (bytes es work ends : List ℕ) → Progress
-batchOf bytes es work ends = cutRecords (uncut work ends) (recordsFrom 0 es bytes)
+abbrev pub batchOf : (bytes es work pairs : List ℕ) → Progress
+batchOf bytes es work pairs = cutRecords (uncut work pairs) (recordsFrom 0 es bytes)
 
 -- ---- the call
 
@@ -83,7 +84,7 @@ abbrev pub batchLines : List ℕ → ℕ → List Line
 batchLines es n = recordEndsLine es n ∷ []
 
 -- the call's promise: its answer, 0 or 10 with all places (with 10 all hold "a result of 0"), and both buffers whole
-pub record BatchDone (bytes es work ends : List ℕ) (r : Batch) (work′ ends′ : List ℕ) : Type 0 where
-  pub answer : r ≡ batchWith 0 (batchOf bytes es work ends .answers) unless batchLines es (length bytes) then (λ number. batchWith number [])
-  pub result : ends′ ≡ batchOf bytes es work ends .ends unless batchLines es (length bytes) then (λ number. ends)
-  pub worked : work′ ≡ batchOf bytes es work ends .work unless batchLines es (length bytes) then (λ number. work)
+pub record BatchDone (bytes es work pairs : List ℕ) (r : Batch) (work′ pairs′ : List ℕ) : Type 0 where
+  pub answer : r ≡ batchWith 0 (batchOf bytes es work pairs .answers) unless batchLines es (length bytes) then (λ number. batchWith number [])
+  pub result : pairs′ ≡ batchOf bytes es work pairs .pairs unless batchLines es (length bytes) then (λ number. pairs)
+  pub worked : work′ ≡ batchOf bytes es work pairs .work unless batchLines es (length bytes) then (λ number. work)

@@ -6,7 +6,7 @@ use mathlib.Core.List.{List, [], _∷_, _++_}
 use Prim.Native.Nat.{ℕ, _*_, max}
 use lib.ListN.{length}
 use lib.Dec.{eqb}
-use Rattle.words.specs.Separated.{separatedIcflEnds}
+use Rattle.words.specs.Pairs.{separatedPairs}
 use Rattle.buffers.specs.Buffers.{cleared, written}
 use Rattle.checks.specs.declared.Counted.{Counted}
 
@@ -21,14 +21,14 @@ longestCut [] answers = 0
 longestCut (w ∷ ws) [] = 0
 longestCut (w ∷ ws) (a ∷ answers) = max (elim (wasCut a) [ true ↦ length w | false ↦ 0 ]) (longestCut ws answers)
 
--- the ends of the records with a result, one after another: "Ends are counted within their own record."
-unfoldable pub packedEnds : List (List ℕ) → List Counted → List ℕ
-packedEnds [] answers = []
-packedEnds (w ∷ ws) [] = []
-packedEnds (w ∷ ws) (Counted.Count n ∷ answers) = separatedIcflEnds w ++ packedEnds ws answers
-packedEnds (w ∷ ws) (Counted.Refused number ∷ answers) = packedEnds ws answers
+-- the pairs of the records with a result, one after another: "Ends are counted within their own record."
+unfoldable pub packedPairs : List (List ℕ) → List Counted → List ℕ
+packedPairs [] answers = []
+packedPairs (w ∷ ws) [] = []
+packedPairs (w ∷ ws) (Counted.Count n ∷ answers) = separatedPairs w ++ packedPairs ws answers
+packedPairs (w ∷ ws) (Counted.Refused number ∷ answers) = packedPairs ws answers
 
 -- the result buffer has these from entry 0 on, and the work buffer is zero as far as the longest record reached; both are otherwise as they were
-pub record Left (records : List (List ℕ)) (answers : List Counted) (work ends work′ ends′ : List ℕ) : Type 0 where
-  pub result : ends′ ≡ written (packedEnds records answers) ends
+pub record Left (records : List (List ℕ)) (answers : List Counted) (work pairs work′ pairs′ : List ℕ) : Type 0 where
+  pub result : pairs′ ≡ written (packedPairs records answers) pairs
   pub zeros : work′ ≡ cleared (3 * longestCut records answers) work

@@ -5,24 +5,25 @@ use mathlib.Core.Bool.{true, false}
 use mathlib.Core.List.{[], _∷_}
 use lib.ListN.{replicate}
 use Rattle.words.specs.Separated.{separatedIcflEnds}
+use Rattle.words.specs.Pairs.{separatedPairs}
 use Rattle.checks.specs.Lines.{tried, lastOf, falls, faultyRecordEnds}
 use Rattle.checks.specs.declared.Counted.the-variants.{Count, Refused}
 use Rattle.batch.specs.Batch.{recordsFrom, Progress, cutRecord, cutRecords, batchOf}
 
--- a b | (nothing) | b b a, with a work buffer of ten entries 7 and a result buffer of four entries 8
+-- a b | (nothing) | b b a, with a work buffer of ten entries 7 and a result buffer of seven entries 8
 abbrev three : Progress
-three = batchOf (97 ∷ 98 ∷ 98 ∷ 98 ∷ 97 ∷ []) (2 ∷ 2 ∷ 5 ∷ []) (replicate 10 7) (replicate 4 8)
+three = batchOf (97 ∷ 98 ∷ 98 ∷ 98 ∷ 97 ∷ []) (2 ∷ 2 ∷ 5 ∷ []) (replicate 10 7) (replicate 7 8)
 
--- a b | b a, with one entry
+-- a b | b a, with two entries
 abbrev short : Progress
-short = batchOf (97 ∷ 98 ∷ 98 ∷ 97 ∷ []) (2 ∷ 4 ∷ []) (replicate 7 7) (8 ∷ [])
+short = batchOf (97 ∷ 98 ∷ 98 ∷ 97 ∷ []) (2 ∷ 4 ∷ []) (replicate 7 7) (8 ∷ 8 ∷ [])
 
 pub record Examples : Type 0 where
   pub answers : three .answers ≡ Count 2 ∷ Refused 1 ∷ Count 1 ∷ []
-  pub ends : three .ends ≡ 1 ∷ 2 ∷ 3 ∷ 8 ∷ []
+  pub pairs : three .pairs ≡ 1 ∷ 1 ∷ 2 ∷ 1 ∷ 3 ∷ 1 ∷ 8 ∷ []
   pub work : three .work ≡ 0 ∷ 0 ∷ 0 ∷ 0 ∷ 0 ∷ 0 ∷ 0 ∷ 0 ∷ 0 ∷ 7 ∷ []
   pub still-tried : short .answers ≡ Refused 4 ∷ Count 1 ∷ []
-  pub still-written : short .ends ≡ 2 ∷ []
+  pub still-written : short .pairs ≡ 2 ∷ 1 ∷ []
   pub short-work : short .work ≡ 0 ∷ 0 ∷ 0 ∷ 0 ∷ 0 ∷ 0 ∷ 7 ∷ []
   pub no-end : faultyRecordEnds [] 0 ≡ true
   pub empty-record : faultyRecordEnds (0 ∷ []) 0 ≡ false
@@ -34,10 +35,10 @@ pub record Examples : Type 0 where
   pub too-high : faultyRecordEnds (4294967295 ∷ []) 3 ≡ true
 
 pub examples : Examples
-unfolding recordsFrom cutRecord cutRecords separatedIcflEnds tried lastOf falls faultyRecordEnds
+unfolding recordsFrom cutRecord cutRecords separatedIcflEnds separatedPairs tried lastOf falls faultyRecordEnds
 examples = record {
   answers = refl;
-  ends = refl;
+  pairs = refl;
   work = refl;
   still-tried = refl;
   still-written = refl;

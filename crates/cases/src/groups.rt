@@ -1,10 +1,13 @@
 //! The groups of records, and the calls that are made on each.
 use naive::BREAK_ENTRIES;
 use naive::Call;
+use naive::PAIR_ENTRIES;
 use naive::RUN_ENTRIES;
+use naive::entry;
 use naive::front;
 use naive::plus;
 use naive::set_letter;
+use naive::store;
 use samples::LISTS;
 use samples::Run;
 use samples::random_record;
@@ -58,10 +61,21 @@ fn try_by_ends(call: Call, many: usize, word: &[u8], ends: &[u16], run: &mut Run
     try_cases(call, false, many, word, ends, front(ends, 0), run);
 }
 
-// What goes by the ends of the piece cut or of the strict cut: the reader and the summary.
-fn on_ends(word: &[u8], ends: &[u16], run: &mut Run) {
-    try_by_ends(Call::Part, ends.len(), word, ends, run);
-    try_by_ends(Call::Summary, 1, word, ends, run);
+// What goes by the pairs of the piece cut or of the strict cut: the reader and the summary.
+fn on_ends(word: &[u8], pairs: &[u16], run: &mut Run) {
+    try_by_ends(Call::Part, pairs.len() / 2, word, pairs, run);
+    try_by_ends(Call::Summary, 1, word, pairs, run);
+}
+
+// The strict cut's ends, 1 beside each.
+fn on_strict(word: &[u8], ends: &[u16], run: &mut Run) {
+    let mut pairs = [1u16; PAIR_ENTRIES];
+    let mut i: usize = 0;
+    while i < ends.len() {
+        store(&mut pairs, plus(i, i), entry(ends, i));
+        i += 1;
+    }
+    on_ends(word, front(&pairs, plus(i, i)), run);
 }
 
 // What goes by the ends of the piece cut: the comparison too, which has 8 ranges of its own and 4 of whole pieces.
@@ -90,7 +104,7 @@ fn on_call(call: Call, limits: bool, many: usize, word: &[u8], run: &mut Run) {
         return;
     }
     match call {
-        Call::Strict => on_ends(word, ends, run),
+        Call::Strict => on_strict(word, ends, run),
         Call::Pieces => on_pieces(word, ends, run),
         _ => {}
     }

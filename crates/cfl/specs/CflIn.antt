@@ -8,9 +8,8 @@ use Rattle.words.specs.Words.{mostLetters}
 use Rattle.buffers.specs.Buffers.{written}
 use Rattle.words.specs.Separated.{separator, separatedCflInEnds}
 use Rattle.scan.specs.State.{Rests}
-use Rattle.checks.specs.Lines.{Line, tried, recordLines, resultLine}
+use Rattle.checks.specs.Lines.{Line, recordLines, resultLine}
 use Rattle.checks.specs.Answers.{Filled}
-use Rattle.checks.specs.declared.Checked.{Checked}
 use Rattle.checks.specs.declared.Counted.{Counted}
 use Rattle.cfl.specs.declared.Run.{Run}
 
@@ -44,8 +43,3 @@ pub record Walked (w buffer : List ℕ) (store : Bool) (r : ℕ) (buffer′ : Li
   pub count : r ≡ length (separatedCflInEnds w)
   pub stored : store ≡ true → buffer′ ≡ written (separatedCflInEnds w) buffer
   pub kept : store ≡ false → buffer′ ≡ buffer
-
--- line 4, with the buffer as it was
-pub record RoomChecked (w buffer : List ℕ) (r : Checked) (buffer′ : List ℕ) : Type 0 where
-  pub answer : r ≡ tried (resultLine (length buffer) (length (separatedCflInEnds w)) ∷ [])
-  pub kept : buffer′ ≡ buffer

@@ -3,10 +3,14 @@
 use checks::Checked;
 use checks::Counted;
 use scan::Scan;
+ghost use mathlib.Core.Path.{_≡_};
+ghost use mathlib.Core.List.{[], _∷_};
 ghost use Prim.Native.Nat.{_≤_};
 ghost use lib.ListN.{length};
-ghost use Rattle.cfl.specs.CflIn.{CflInDone, Room, RoomChecked, RunAsked, RunAt, Walked};
 ghost use Rattle.words.specs.Words.{mostLetters};
+ghost use Rattle.words.specs.Separated.{separatedCflInEnds};
+ghost use Rattle.checks.specs.Lines.{tried, resultLine};
+ghost use Rattle.cfl.specs.CflIn.{CflInDone, Room, RunAsked, RunAt, Walked};
 
 // A factor that is repeated: its length, and the place before which each of its repetitions begins.
 struct Run {
@@ -60,16 +64,24 @@ fn walk(word: &[u8], ends: &mut [u16], store: bool) -> usize
     count
 }
 
-// Line 4. There are no more factors than letters, so they are counted only for a buffer that is shorter than the word.
-fn check_room(word: &[u8], ends: &mut [u16]) -> Checked
+/// The number of factors of a word: of a record that was accepted, or of a part of one. Nothing is stored.
+pub fn count_factors(word: &[u8]) -> usize
     requires { ⌜ length (now word) ≤ mostLetters ⌝ }
-    ensures { λ r. ⌜ RoomChecked (now (word .entry)) (now (ends .entry)) r (now (ends .exit)) ⌝ }
+    ensures { λ r. ⌜ r ≡ length (separatedCflInEnds (now (word .entry))) ⌝ }
 {
-    if word.len() <= ends.len() {
+    let mut none = [0u16; 0];
+    walk(word, &mut none, false)
+}
+
+// Line 4. There are no more factors than letters, so they are counted only for a buffer that is shorter than the word.
+fn check_room(word: &[u8], entries: usize) -> Checked
+    requires { ⌜ length (now word) ≤ mostLetters ⌝ }
+    ensures { λ r. ⌜ r ≡ tried (resultLine entries (length (separatedCflInEnds (now (word .entry)))) ∷ []) ⌝ }
+{
+    if word.len() <= entries {
         return Checked::Passed;
     }
-    let count = walk(word, ends, false);
-    checks::check_result(ends.len(), count)
+    checks::check_result(entries, count_factors(word))
 }
 
 /// The strict cut: writes the ends of the factors from entry 0 on, and answers their number. Each separator is a factor, and each stretch
@@ -81,7 +93,7 @@ pub fn cfl_in(word: &[u8], ends: &mut [u16]) -> Counted
     let Checked::Passed = admitted else {
         return Counted::Refused(admitted.number());
     };
-    let room = check_room(word, ends);
+    let room = check_room(word, ends.len());
     let Checked::Passed = room else {
         return Counted::Refused(room.number());
     };

@@ -1,13 +1,10 @@
--- Line 7. A list of ends passes just where it is not empty and rises from 0 to the length (ends-test); and the turns of the loop that goes over it
--- (Rising): it rises from 0 on just where what is left rises from the last end on.
+-- Line 7, its ends: a list of ends passes just where it is not empty and rises from 0 to the length (ends-test).
 use mathlib.Core.Path.{_≡_, refl, ap}
 use mathlib.Core.Bool.{Bool, true, false, not, _&&_, _||_}
 use mathlib.Core.List.{List, [], _∷_}
-use Prim.Native.Nat.{ℕ, suc, _+_, _≤_, _<_}
-use native.Mathlib.Numerals.{add-one}
+use Prim.Native.Nat.{ℕ, suc, _<_}
 use native.Mathlib.Omega.{arith}
-use lib.ListN.{length, drop, getD, drop-of-length-le}
-use lib.Seq.{drop-cons}
+use lib.ListN.{length}
 use lib.Dec.{eqb}
 use Rattle.words.specs.orders.Decisions.{Decides, holds, fails, leb-test, eqb-test, decides-map, decides-true}
 use Rattle.words.specs.places.EndsRise.{Rises, done, more, rises-head, rises-tail, rises-end}
@@ -53,41 +50,3 @@ ends-accepted es n e = decides-true (ends-test es n) (ap not e)
 
 pub ends-pass : (es : List ℕ) (n : ℕ) → EndsOf n es → faultyEnds es n ≡ false
 ends-pass es n v = faulty-is false (faultyEnds es n) (holds v) (ends-test es n)
-
--- ---- the loop: the ends before i rise from 0 to last
-
-pub record Rising (n : ℕ) (es : List ℕ) (last i : ℕ) : Type 0 where
-  pub inside : i ≤ length es
-  pub on : Rises n 0 es → Rises n last (drop i es)
-  pub back : Rises n last (drop i es) → Rises n 0 es
-
-pub rising-starts : (n : ℕ) (es : List ℕ) → Rising n es 0 0
-rising-starts n es = record { inside = omega arith; on = λ r. r; back = λ r. r }
-
-module _ (n : ℕ) (es : List ℕ) (last i : ℕ) (g : Rising n es last i) where
-  pub rising-on : i < length es → last < getD es i 0 → Rising n es (getD es i 0) (i + 1)
-  rising-on l h = record {
-    inside = omega arith;
-    on = λ r. rw (add-one i) (rises-tail (rw (drop-cons es i 0 l) at (g .on r)));
-    back = λ r. g .back (rw (drop-cons es i 0 l) (more h (rw (add-one i) at r)));
-  }
-
-  pub rising-fails : i < length es → getD es i 0 ≤ last → true ≡ faultyEnds es n
-  rising-fails l h =
-      faulty-is (faultyEnds es n) true (ends-test es n) (fails (λ v. omega (arith, rises-head (rw (drop-cons es i 0 l) at (g .on (v .rises))))))
-
-  pub rising-ends : length es ≤ i → 0 < length es → not (eqb last n) ≡ faultyEnds es n
-  rising-ends l p = go (eqb-test last n)
-    where
-      go : {t : Bool} → Decides (last ≡ n) t → not t ≡ faultyEnds es n
-      go (holds e) =
-          faulty-is (faultyEnds es n) false (ends-test es n)
-          (holds (record { some = p; rises = g .back (rw (drop-of-length-le es {i = i} l) (done e)) }))
-      go (fails m) =
-          faulty-is (faultyEnds es n) true (ends-test es n)
-          (fails (λ v. m (rises-end (rw (drop-of-length-le es {i = i} l) at (g .on (v .rises))))))
-
-pub empty-faulty : (n : ℕ) (es : List ℕ) → length es ≡ 0 → true ≡ faultyEnds es n
-unfolding faultyEnds
-empty-faulty n [] e = refl
-empty-faulty n (a ∷ es) e = absurd (omega arith)

@@ -1,5 +1,6 @@
 pub mod LineLaws
 pub mod RecordLaws
 pub mod EndsLaws
+pub mod PairsLaws
 pub mod RecordEndsLaws
 pub mod MarkLaws

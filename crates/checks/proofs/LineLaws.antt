@@ -1,7 +1,7 @@
 -- The lines of the table, whatever they are: what is known in the two branches of `let Checked::Passed = k else` (passed, refused, not-both), lines
 -- that are tried in two parts (both, refused-first, passed-first), what it tells that all pass (unmet, all-pass), what an answer says (reading, said), which
 -- numbers can come (first-listed, zero-passes, numbered-is, unless-but), and calls that fill a result buffer (filled-refused, filled-done, and back:
--- filled-counted, filled-front, filled-number).
+-- filled-counted, filled-entries, filled-front, filled-number).
 use mathlib.Core.Path.{_≡_, refl, ap, sym, _∙_}
 use mathlib.Core.Bool.{Bool, true, false, not, _||_, _&&_, true≢false}
 use mathlib.Core.Logic.{_⊎_, inl, inr}
@@ -210,11 +210,14 @@ filled-counted {lines} {n} {m} {vs} {buffer} {buffer′} f = go (tried lines) (f
     go (Refused number) e b = let z : _≡_ {A = ℕ} 0 1 = cc in absurd (omega arith)
 
 -- a call that answered Count m wrote m entries to the buffer's front
+pub filled-entries : {lines : List Line} {n m : ℕ} {vs buffer buffer′ : List ℕ} → Filled lines n vs buffer (Counted.Count m) buffer′ → (k : ℕ) → k ≡ length vs
+    → (take k buffer′ ≡ vs) × (k ≤ length buffer′)
+filled-entries {vs = vs} {buffer = buffer} f k e =
+    rw (filled-counted f .2, e) (take-at vs (drop (length vs) buffer) (length vs) refl, rw length-append (omega arith))
+
 pub filled-front : {lines : List Line} {m : ℕ} {vs buffer buffer′ : List ℕ} → Filled lines (length vs) vs buffer (Counted.Count m) buffer′
     → (take m buffer′ ≡ vs) × (m ≤ length buffer′)
-filled-front {vs = vs} {buffer = buffer} f =
-    let h = filled-counted f in
-    rw (h .2, h .1) (take-at vs (drop (length vs) buffer) (length vs) refl, rw length-append (omega arith))
+filled-front {m = m} f = filled-entries f m (filled-counted f .1)
 
 pub filled-number : {lines : List Line} {n m : ℕ} {vs buffer buffer′ : List ℕ} → Filled lines n vs buffer (Counted.Refused m) buffer′
     → (tried lines ≡ Refused m) × (buffer′ ≡ buffer)

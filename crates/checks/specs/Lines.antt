@@ -2,11 +2,12 @@
 -- order, and what it answers and leaves in a buffer is `result unless lines then refusal`. Which lines a call tries stands with the call.
 use mathlib.Core.Bool.{Bool, true, false, not, _||_}
 use mathlib.Core.List.{List, [], _∷_}
-use Prim.Native.Nat.{ℕ}
+use Prim.Native.Nat.{ℕ, _-_, _%_}
 use lib.ListN.{length}
 use lib.Dec.{leb, ltb, eqb}
 use Rattle.words.specs.Words.{mostLetters}
 use Rattle.words.specs.Separated.{isMarked}
+use Rattle.words.specs.Pairs.{endsOf}
 use Rattle.checks.specs.declared.Checked.{Checked}
 use Rattle.checks.specs.declared.Checked.the-variants.{Passed, Refused}
 
@@ -70,10 +71,21 @@ unfolding rising lastOf
 faultyEnds [] n = true
 faultyEnds (e ∷ es) n = eqb e 0 || (not (rising (e ∷ es)) || not (eqb (lastOf e es) n))
 
-abbrev pub endsLine : List ℕ → ℕ → Line
-endsLine es n = 7 when faultyEnds es n
+-- request 108: "a count that is 0 or above its piece's length", in a list of pairs, the first of which is of a piece that begins at i
+unfoldable pub faultyCounts : ℕ → List ℕ → Bool
+faultyCounts i [] = false
+faultyCounts i (e ∷ []) = false
+faultyCounts i (e ∷ c ∷ ps) = eqb c 0 || (ltb (e - i) c || faultyCounts e ps)
 
--- "not below the number of ends"
+-- "The reader and the summary take the paired list and refuse by 7 also an odd number of entries, or a count .."
+unfoldable pub faultyPairs : List ℕ → ℕ → Bool
+unfolding endsOf faultyEnds faultyCounts
+faultyPairs ps n = faultyEnds (endsOf ps) n || (eqb (length ps % 2) 1 || faultyCounts 0 ps)
+
+abbrev pub pairsLine : List ℕ → ℕ → Line
+pairsLine ps n = 7 when faultyPairs ps n
+
+-- "not below the number of ends", those of the pairs
 abbrev pub numberLine : ℕ → ℕ → Line
 numberLine number count = 8 when leb count number
 

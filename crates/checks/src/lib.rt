@@ -3,8 +3,8 @@
 ghost use mathlib.Core.Path.{_≡_};
 ghost use mathlib.Core.List.{[], _∷_};
 ghost use Rattle.checks.specs.Lines.{_when_, tried};
-ghost use Rattle.checks.specs.Lines.{recordLines, workLine, resultLine, rangeLine, startLine, endsLine, numberLine, markLine, recordEndsLine};
-ghost use Rattle.checks.specs.Lines.{faultyEnds, faultyRecordEnds};
+ghost use Rattle.checks.specs.Lines.{recordLines, workLine, resultLine, rangeLine, startLine, pairsLine, numberLine, markLine, recordEndsLine};
+ghost use Rattle.checks.specs.Lines.{faultyPairs, faultyRecordEnds};
 ghost use Rattle.words.specs.Separated.{isMarked};
 ghost use Rattle.checks.specs.Answers.{numberOf, firstOf};
 
@@ -94,31 +94,37 @@ pub fn check_start(first: usize, end: usize, start: usize) -> Checked
     Checked::when(6, (start < first) | (end <= start))
 }
 
-// Whether a list of ends is empty, does not rise strictly from above 0, or does not end at the record's length.
-fn faulty_ends(ends: &[u16], letters: usize) -> bool
-    ensures { λ r. ⌜ r ≡ faultyEnds (now (ends .entry)) letters ⌝ }
+// Whether a list of pairs is empty or has an odd number of entries, its ends do not rise strictly from above 0 to the record's length, or a count is 0 or above
+// its part's length.
+fn faulty_pairs(pairs: &[u16], letters: usize) -> bool
+    ensures { λ r. ⌜ r ≡ faultyPairs (now (pairs .entry)) letters ⌝ }
 {
-    if ends.len() == 0 {
+    let entries = pairs.len();
+    if (entries == 0) | (entries % 2 == 1) {
         return true;
     }
     let mut last: u16 = 0;
     let mut i: usize = 0;
-    while i < ends.len() {
-        let end = ends[i];
+    while i < entries {
+        let end = pairs[i];
+        let count = pairs[i + 1];
         if end <= last {
             return true;
         }
+        if (count == 0) | (end - last < count) {
+            return true;
+        }
         last = end;
-        i += 1;
+        i += 2;
     }
     last as usize != letters
 }
 
-/// Line 7: a list of ends for a record of so many letters.
-pub fn check_ends(ends: &[u16], letters: usize) -> Checked
-    ensures { λ r. ⌜ r ≡ tried (endsLine (now (ends .entry)) letters ∷ []) ⌝ }
+/// Line 7: a list of pairs for a record of so many letters.
+pub fn check_pairs(pairs: &[u16], letters: usize) -> Checked
+    ensures { λ r. ⌜ r ≡ tried (pairsLine (now (pairs .entry)) letters ∷ []) ⌝ }
 {
-    Checked::when(7, faulty_ends(ends, letters))
+    Checked::when(7, faulty_pairs(pairs, letters))
 }
 
 /// Line 8: a part's number against the number of ends.

@@ -42,15 +42,15 @@ use Rattle.exports.specs.Exports.{
 
 pub record Calls : Type 1 where
   pub Test : (w work : List ℕ) (r : Extension) (work′ : List ℕ) → Type 0
-  pub PieceCut : (w work ends : List ℕ) (r : Counted) (work′ ends′ : List ℕ) → Type 0
-  pub ReasonedCut : (w work ends breaks : List ℕ) (r : CountedBreaks) (work′ ends′ breaks′ : List ℕ) → Type 0
-  pub CardCut : (bytes es work ends : List ℕ) (r : Batch) (work′ ends′ : List ℕ) → Type 0
+  pub PieceCut : (w work pairs : List ℕ) (r : Counted) (work′ pairs′ : List ℕ) → Type 0
+  pub ReasonedCut : (w work pairs breaks : List ℕ) (r : CountedBreaks) (work′ pairs′ breaks′ : List ℕ) → Type 0
+  pub CardCut : (bytes es work pairs : List ℕ) (r : Batch) (work′ pairs′ : List ℕ) → Type 0
   pub StrictCut : (w ends : List ℕ) (r : Counted) (ends′ : List ℕ) → Type 0
   pub StartTable : (w out : List ℕ) (r : Counted) (out′ : List ℕ) → Type 0
   pub Repetitions : (w out : List ℕ) (r : Counted) (out′ : List ℕ) → Type 0
   pub Comparing : (w : List ℕ) (first end start other : ℕ) (r : Comparison) → Type 0
-  pub Reading : (w es : List ℕ) (k : ℕ) (part : List ℕ) (number : ℕ) → Type 0
-  pub Summing : (w es : List ℕ) (r : Summary) → Type 0
+  pub Reading : (w ps : List ℕ) (k : ℕ) (part : List ℕ) (number : ℕ) → Type 0
+  pub Summing : (w ps : List ℕ) (r : Summary) → Type 0
 
 -- the library's calls, by their promises
 abbrev pub library : Calls
@@ -88,13 +88,13 @@ comparisonBy number sign common = decided (numbered number) (Comparison.Order si
 abbrev pub exported : Calls
 exported = record {
   Test = λ w work r work′. (e l p b : ℕ) × (r ≡ verdictBy e l p b) × TestNumbers w work e l p b work′;
-  PieceCut = λ w work ends r work′ ends′. (e n : ℕ) × (r ≡ countBy e n) × IcflNumbers w work ends e n work′ ends′;
-  ReasonedCut = λ w work ends breaks r work′ ends′ breaks′. (e n k : ℕ) × (r ≡ countsBy e n k) × BreaksNumbers w work ends breaks e n k work′ ends′ breaks′;
-  CardCut = λ bytes es work ends r work′ ends′. (x : Replies) × (r ≡ batchBy x) × BatchNumbers bytes es work ends x work′ ends′;
+  PieceCut = λ w work pairs r work′ pairs′. (e n : ℕ) × (r ≡ countBy e n) × IcflNumbers w work pairs e n work′ pairs′;
+  ReasonedCut = λ w work pairs breaks r work′ pairs′ breaks′. (e n k : ℕ) × (r ≡ countsBy e n k) × BreaksNumbers w work pairs breaks e n k work′ pairs′ breaks′;
+  CardCut = λ bytes es work pairs r work′ pairs′. (x : Replies) × (r ≡ batchBy x) × BatchNumbers bytes es work pairs x work′ pairs′;
   StrictCut = λ w ends r ends′. (e n : ℕ) × (r ≡ countBy e n) × CflInNumbers w ends e n ends′;
   StartTable = λ w out r out′. (e n : ℕ) × (r ≡ countBy e n) × TableNumbers w out e n out′;
   Repetitions = λ w out r out′. (e n : ℕ) × (r ≡ countBy e n) × RunsNumbers w out e n out′;
   Comparing = λ w first end start other r. (e : ℕ) × (s : ℤ) × (n : ℕ) × (r ≡ comparisonBy e s n) × ComparisonNumbers w first end start other e s n;
-  Reading = λ w es k part number. (i j : ℕ) × (part ≡ slice i j w) × FactorNumbers w es k number i j;
+  Reading = λ w ps k part number. (i j : ℕ) × (part ≡ slice i j w) × FactorNumbers w ps k number i j;
   Summing = Summarized;
 }

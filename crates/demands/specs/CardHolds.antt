@@ -12,8 +12,8 @@ use Rattle.checks.specs.declared.Checked.the-variants.{Passed}
 use Rattle.checks.specs.declared.Counted.{Counted}
 use Rattle.batch.specs.declared.Batch.{Batch}
 use Rattle.batch.specs.Batch.{icflAnswer, icflResult, icflWork, recordsFrom, Progress, entriesUsed, cutRecord, cutRecords, uncut, batchOf, batchLines, BatchDone}
-use Rattle.batch.specs.BatchStatements.{packedEnds}
-use Rattle.batch.proofs.FoldLaws.{left, added, batch-answers, Every, Fits, linesOf, fits-by, folded-ends}
+use Rattle.batch.specs.BatchStatements.{packedPairs}
+use Rattle.batch.proofs.FoldLaws.{left, added, batch-answers, Every, Fits, linesOf, fits-by, folded-pairs}
 use Rattle.batch.proofs.BatchLaws.{batch-left, no-fours}
 use Rattle.demands.specs.Calls.{Calls}
 use Rattle.demands.specs.Demands.{Singly, none, next, CardAnswered}
@@ -44,14 +44,14 @@ every-member P (x ∷ answers) h a (List·Memᴰ·head e) = rw e (h .0)
 every-member P (x ∷ answers) h a (List·Memᴰ·tail m) = every-member P answers (h .1) a m
 
 module _ (c : Calls) (m : Meets c) (t : Total c) where
-  single : (w work ends : List ℕ) → c .PieceCut w work ends (icflAnswer w work ends) (icflWork w work ends) (icflResult w work ends)
-  single w work ends =
-      let a = t .pieceCut w work ends in
-      let d = m .pieceCut w work ends (a .0) (a .1) (a .2) (a .3) in
+  single : (w work pairs : List ℕ) → c .PieceCut w work pairs (icflAnswer w work pairs) (icflWork w work pairs) (icflResult w work pairs)
+  single w work pairs =
+      let a = t .pieceCut w work pairs in
+      let d = m .pieceCut w work pairs (a .0) (a .1) (a .2) (a .3) in
       rw (d .filled .answer, d .worked, d .filled .result) at (a .3)
 
   singly : (p : Progress) (ws : List (List ℕ)) → Fits p
-      → Singly c ws (p .work) (left p) (added p ws) (cutRecords p ws .work) (drop (p .used) (cutRecords p ws .ends))
+      → Singly c ws (p .work) (left p) (added p ws) (cutRecords p ws .work) (drop (p .used) (cutRecords p ws .pairs))
   unfolding added cutRecords cutRecord
   singly p [] l = none
   singly p (w ∷ ws) l =
@@ -59,21 +59,21 @@ module _ (c : Calls) (m : Meets c) (t : Total c) where
       let result = icflResult w (p .work) (left p) in
       let n = entriesUsed (icflAnswer w (p .work) (left p)) in
       let fits : Fits q = fits-by (tried (linesOf p w)) p w l in
-      let room : n ≤ length result = omega (arith, fits, length-append (take (p .used) (p .ends)) result, length-take-le (p .used) (p .ends) l) in
-      let later : Singly c ws (q .work) (drop n result) (added q ws) (cutRecords q ws .work) (drop (q .used) (cutRecords q ws .ends)) =
-      rw (drop-behind (p .used) n (p .ends) result l) at (singly q ws fits)
+      let room : n ≤ length result = omega (arith, fits, length-append (take (p .used) (p .pairs)) result, length-take-le (p .used) (p .pairs) l) in
+      let later : Singly c ws (q .work) (drop n result) (added q ws) (cutRecords q ws .work) (drop (q .used) (cutRecords q ws .pairs)) =
+      rw (drop-behind (p .used) n (p .pairs) result l) at (singly q ws fits)
       in
-      rw (parts-behind (p .used) n (p .ends) result l (written (packedEnds ws (added q ws)) (left q)) (cutRecords q ws .ends) room (folded-ends q ws fits))
+      rw (parts-behind (p .used) n (p .pairs) result l (written (packedPairs ws (added q ws)) (left q)) (cutRecords q ws .pairs) room (folded-pairs q ws fits))
       (next (single w (p .work) (left p)) later)
 
-  pub card-answered : (bytes es work ends work′ ends′ : List ℕ) (r : Batch) → BatchDone bytes es work ends r work′ ends′
-      → tried (batchLines es (length bytes)) ≡ Passed → CardAnswered c bytes es work ends r work′ ends′
-  card-answered bytes es work ends work′ ends′ r d p =
+  pub card-answered : (bytes es work pairs work′ pairs′ : List ℕ) (r : Batch) → BatchDone bytes es work pairs r work′ pairs′
+      → tried (batchLines es (length bytes)) ≡ Passed → CardAnswered c bytes es work pairs r work′ pairs′
+  card-answered bytes es work pairs work′ pairs′ r d p =
       let records = recordsFrom 0 es bytes in
       record {
-        answers = batchOf bytes es work ends .answers;
+        answers = batchOf bytes es work pairs .answers;
         places = ap (λ (b : Batch). b .places) (rw p at (d .answer));
-        singly = rw (rw p at (d .worked), rw p at (d .result), batch-answers bytes es work ends) (singly (uncut work ends) records (omega arith));
+        singly = rw (rw p at (d .worked), rw p at (d .result), batch-answers bytes es work pairs) (singly (uncut work pairs) records (omega arith));
         left = batch-left d p;
-        enough = λ l. every-member (λ a. ¬ (a ≡ Counted.Refused 4)) (batchOf bytes es work ends .answers) (no-fours bytes es work ends p l);
+        enough = λ l. every-member (λ a. ¬ (a ≡ Counted.Refused 4)) (batchOf bytes es work pairs .answers) (no-fours bytes es work pairs p l);
       }

@@ -14,7 +14,7 @@ use Rattle.words.specs.Words as words
 use Rattle.words.specs.orders.MismatchLaws.{≪-asym}
 use Rattle.words.specs.orders.LexLaws.{≤ₗ-not-≪, <ₗ-≤ₗ}
 use Rattle.words.specs.Factorizations.{prefixLength}
-use Rattle.words.specs.Separated.{mark, separatedIcflEnds, separatedBreaks}
+use Rattle.words.specs.Separated.{mark, separatedIcflEnds, separatedCflInEnds, separatedBreaks}
 use Rattle.words.specs.declared.Fate.the-variants.{Joined}
 use Rattle.words.specs.declared.Break.{Break}
 use Rattle.words.specs.Statements.{here, there, WholePieces, Compatible}
@@ -27,6 +27,8 @@ use Rattle.checks.specs.declared.Counted.{Counted}
 use Rattle.checks.proofs.LineLaws.{not-both, all-pass}
 use Rattle.fates.specs.Entries.{entriesOf}
 use Rattle.fates.proofs.EntryLaws.{length-entries}
+use Rattle.words.specs.Pairs.{pairsFrom, separatedPairs, endsOf}
+use Rattle.words.specs.stretches.RecordPairs.{pairs-ends-from, pairs-number, pairs-ends}
 use Rattle.icfl.specs.Icfl.{icflAdmission, icflLines, workAfter}
 use Rattle.icfl.specs.declared.with_breaks.CountedBreaks.{CountedBreaks}
 use Rattle.compare.specs.declared.suffixes.Comparison.{Comparison}
@@ -36,10 +38,10 @@ use Rattle.demands.specs.Demands.{Demand1, Demand2, Demand3}
 use Rattle.demands.specs.Meets.{Meets}
 
 abbrev pub Cut : Type 1
-Cut = (w work ends : List ℕ) (r : Counted) (work′ ends′ : List ℕ) → Type 0
+Cut = (w work pairs : List ℕ) (r : Counted) (work′ pairs′ : List ℕ) → Type 0
 
 abbrev pub ReasonedCut : Type 1
-ReasonedCut = (w work ends breaks : List ℕ) (r : CountedBreaks) (work′ ends′ breaks′ : List ℕ) → Type 0
+ReasonedCut = (w work pairs breaks : List ℕ) (r : CountedBreaks) (work′ pairs′ breaks′ : List ℕ) → Type 0
 
 -- the library with other piece cuts, without and with breaks
 abbrev pub cutters : Cut → ReasonedCut → Calls
@@ -62,37 +64,47 @@ cutter cut = cutters cut (library .ReasonedCut)
 abbrev reasoner : ReasonedCut → Calls
 reasoner reasoned = cutters (library .PieceCut) reasoned
 
--- ---- cutters that are right but for the ends, which are f w
+-- ---- cutters that are right but for the pairs, which are f w
 
 abbrev pub linesAt : (List ℕ → List ℕ) → List ℕ → ℕ → ℕ → List Line
 linesAt f w work entries = icflAdmission w work ++ resultLine entries (length (f w)) ∷ []
 
-pub record CutsAt (f : List ℕ → List ℕ) (w work ends : List ℕ) (r : Counted) (work′ ends′ : List ℕ) : Type 0 where
-  pub filled : Filled (linesAt f w (length work) (length ends)) (length (f w)) (f w) ends r ends′
-  pub worked : work′ ≡ cleared (3 * length w) work unless linesAt f w (length work) (length ends) then workAfter (3 * length w) work
+pub record CutsAt (f : List ℕ → List ℕ) (w work pairs : List ℕ) (r : Counted) (work′ pairs′ : List ℕ) : Type 0 where
+  pub filled : Filled (linesAt f w (length work) (length pairs)) (length (endsOf (f w))) (f w) pairs r pairs′
+  pub worked : work′ ≡ cleared (3 * length w) work unless linesAt f w (length work) (length pairs) then workAfter (3 * length w) work
 
--- demand 2 shuts out every one whose ends are not the factorization's
-pub other-ends : (f : List ℕ → List ℕ) (w : List ℕ) → 1 ≤ length w → length w ≤ mostLetters → ¬ (f w ≡ separatedIcflEnds w) → ¬ Demand2 (cutter (CutsAt f)) w
-other-ends f w s l n d =
+-- demand 2 shuts out every one whose pairs are not the factorization's
+pub other-pairs : (f : List ℕ → List ℕ) (w : List ℕ) → 1 ≤ length w → length w ≤ mostLetters → length (f w) ≡ 2 * length (endsOf (f w)) → ¬ (f w ≡ separatedPairs w)
+    → ¬ Demand2 (cutter (CutsAt f)) w
+other-pairs f w s l even n d =
     let work : List ℕ = replicate (3 * length w) 0 in
-    let ends : List ℕ = replicate (length (f w)) 0 in
+    let pairs : List ℕ = replicate (length (f w)) 0 in
     let size-work : length work ≡ 3 * length w = length-replicate (3 * length w) 0 in
-    let size : length ends ≡ length (f w) = length-replicate (length (f w)) 0 in
-    let none : tried (linesAt f w (length work) (length ends)) ≡ Passed = all-pass (linesAt f w (length work) (length ends)) (
+    let size : length pairs ≡ length (f w) = length-replicate (length (f w)) 0 in
+    let none : tried (linesAt f w (length work) (length pairs)) ≡ Passed = all-pass (linesAt f w (length work) (length pairs)) (
       ne-eqb (length w) 0 (λ z. omega arith),
       (
         le-ltb mostLetters (length w) l,
-        (le-ltb (length work) (3 * length w) (omega (arith, size-work)), (le-ltb (length ends) (length (f w)) (omega (arith, size)), search)),
+        (le-ltb (length work) (3 * length w) (omega (arith, size-work)), (le-ltb (length pairs) (length (f w)) (omega (arith, size)), search)),
       ),
     ) in
-    let cut : CutsAt f w work ends (Counted.Count (length (f w))) (cleared (3 * length w) work) (written (f w) ends) =
+    let cut : CutsAt f w work pairs (Counted.Count (length (endsOf (f w)))) (cleared (3 * length w) work) (written (f w) pairs) =
     record { filled = record { answer = rw none refl; result = rw none refl }; worked = rw none refl } in
-    let gave = d .pieces work ends _ _ _ cut refl in
-    let same : length (separatedIcflEnds w) ≡ length (f w) = sym cc in
-    n (sym (take-at (f w) (drop (length (f w)) ends) (length (f w)) refl) ∙ (rw same at (gave .entries)))
+    let gave = d .pieces work pairs _ _ _ cut refl in
+    let same : length (separatedIcflEnds w) ≡ length (endsOf (f w)) = sym cc in
+    n (sym (take-at (f w) (drop (length (f w)) pairs) (2 * length (endsOf (f w))) even) ∙ (rw same at (gave .entries)))
+
+-- those whose ends are f w, with the right counts beside them
+abbrev pub countedAt : (List ℕ → List ℕ) → List ℕ → List ℕ
+countedAt f w = pairsFrom 0 (f w) (separatedCflInEnds w)
+
+pub other-ends : (f : List ℕ → List ℕ) (w : List ℕ) → 1 ≤ length w → length w ≤ mostLetters → ¬ (f w ≡ separatedIcflEnds w) → ¬ Demand2 (cutter (CutsAt (countedAt f))) w
+other-ends f w s l n =
+    let ends : endsOf (countedAt f w) ≡ f w = pairs-ends-from 0 (f w) (separatedCflInEnds w) in
+    other-pairs (countedAt f) w s l (pairs-number 0 (f w) (separatedCflInEnds w) ∙ rw ends refl) (λ e. n (sym ends ∙ (ap endsOf e ∙ pairs-ends w)))
 
 -- 1. "A cutter that gives the whole record as one piece"
-pub whole-record : ¬ Demand2 (cutter (CutsAt (λ w. length w ∷ []))) (a ∷ b ∷ [])
+pub whole-record : ¬ Demand2 (cutter (CutsAt (countedAt (λ w. length w ∷ [])))) (a ∷ b ∷ [])
 unfolding separatedIcflEnds
 whole-record = other-ends (λ w. length w ∷ []) (a ∷ b ∷ []) (omega arith) (omega arith)
     (λ e. let z : _≡_ {A = ℕ} 2 1 = ap (λ (t : List ℕ). getD t 0 0) e in omega arith)
@@ -102,13 +114,13 @@ abbrev countUp : ℕ → List ℕ → List ℕ
 countUp i [] = []
 countUp i (x ∷ w) = suc i ∷ countUp (suc i) w
 
-pub every-byte : ¬ Demand2 (cutter (CutsAt (countUp 0))) (b ∷ a ∷ [])
+pub every-byte : ¬ Demand2 (cutter (CutsAt (countedAt (countUp 0)))) (b ∷ a ∷ [])
 unfolding separatedIcflEnds
 every-byte = other-ends (countUp 0) (b ∷ a ∷ []) (omega arith) (omega arith)
     (λ e. let z : _≡_ {A = ℕ} 1 2 = ap (λ (t : List ℕ). getD t 0 0) e in omega arith)
 
 -- 3. "One that finds the first p rightly and makes the rest one piece"
-pub first-p-only : ¬ Demand2 (cutter (CutsAt (λ w. prefixLength w ∷ length w ∷ []))) (a ∷ b ∷ c ∷ [])
+pub first-p-only : ¬ Demand2 (cutter (CutsAt (countedAt (λ w. prefixLength w ∷ length w ∷ [])))) (a ∷ b ∷ c ∷ [])
 unfolding separatedIcflEnds prefixLength
 first-p-only = other-ends (λ w. prefixLength w ∷ length w ∷ []) (a ∷ b ∷ c ∷ []) (omega arith) (omega arith)
     (λ e. let z : _≡_ {A = ℕ} 3 2 = ap (λ (t : List ℕ). getD t 1 0) e in omega arith)
@@ -116,61 +128,61 @@ first-p-only = other-ends (λ w. prefixLength w ∷ length w ∷ []) (a ∷ b �
 -- ---- other cutters, which leave the work buffer alone; only the answer and the ends are looked at
 
 abbrev pub Answering : ((w : List ℕ) (work entries : ℕ) → Counted) → (List ℕ → List ℕ → List ℕ) → Cut
-Answering answer after w work ends r work′ ends′ = (r ≡ answer w (length work) (length ends)) × (ends′ ≡ after w ends) × (work′ ≡ work)
+Answering answer after w work pairs r work′ pairs′ = (r ≡ answer w (length work) (length pairs)) × (pairs′ ≡ after w pairs) × (work′ ≡ work)
 
 -- 4. "One that leaves the buffer alone and reports ends"
-pub buffer-left-alone : ¬ Demand2 (cutter (Answering (λ w work entries. Counted.Count (length (separatedIcflEnds w))) (λ w ends. ends))) (a ∷ [])
-unfolding separatedIcflEnds
+pub buffer-left-alone : ¬ Demand2 (cutter (Answering (λ w work entries. Counted.Count (length (separatedIcflEnds w))) (λ w pairs. pairs))) (a ∷ [])
+unfolding separatedIcflEnds separatedPairs
 buffer-left-alone d =
-    let gave = d .pieces [] (0 ∷ []) [] (0 ∷ []) (Counted.Count 1) (refl, refl, refl) refl in
+    let gave = d .pieces [] (0 ∷ 0 ∷ []) [] (0 ∷ 0 ∷ []) (Counted.Count 1) (refl, refl, refl) refl in
     let z : _≡_ {A = ℕ} 0 1 = ap (λ (t : List ℕ). getD t 0 0) (gave .entries) in
     omega arith
 
 -- 5. 'One that says "no space" before counting': 4 where the buffer has fewer entries than the record has letters
 pub no-space : ¬ Demand1 (cutter (Answering
-    (λ w work entries. Counted.Count (length (separatedIcflEnds w)) unless icflAdmission w work ++ resultLine entries (length w) ∷ [] then Counted.Refused)
-    (λ w ends. ends)))
+    (λ w work entries. Counted.Count (length (separatedIcflEnds w)) unless icflAdmission w work ++ resultLine entries (2 * length w) ∷ [] then Counted.Refused)
+    (λ w pairs. pairs)))
 unfolding tried separatedIcflEnds
-no-space d = not-both refl (d .pieceCut (b ∷ a ∷ []) (replicate 6 0) (0 ∷ []) _ _ (Counted.Refused 4) (refl, refl, refl) .0 .first)
+no-space d = not-both refl (d .pieceCut (b ∷ a ∷ []) (replicate 6 0) (0 ∷ 0 ∷ []) _ _ (Counted.Refused 4) (refl, refl, refl) .0 .first)
 
 -- 6. "or refuses all"
-pub refuses-all : ¬ Demand1 (cutter (Answering (λ w work entries. Counted.Refused 3) (λ w ends. ends)))
+pub refuses-all : ¬ Demand1 (cutter (Answering (λ w work entries. Counted.Refused 3) (λ w pairs. pairs)))
 unfolding tried separatedIcflEnds
-refuses-all d = not-both refl (d .pieceCut (a ∷ []) (replicate 3 0) (0 ∷ []) _ _ (Counted.Refused 3) (refl, refl, refl) .0 .first)
+refuses-all d = not-both refl (d .pieceCut (a ∷ []) (replicate 3 0) (0 ∷ 0 ∷ []) _ _ (Counted.Refused 3) (refl, refl, refl) .0 .first)
 
 -- 7. "One that invents the number of pieces"
-pub invented-count : ¬ Demand2 (cutter (Answering (λ w work entries. Counted.Count (length w + 1)) (λ w ends. written (separatedIcflEnds w) ends))) (a ∷ [])
-unfolding separatedIcflEnds
+pub invented-count : ¬ Demand2 (cutter (Answering (λ w work entries. Counted.Count (length w + 1)) (λ w pairs. written (separatedPairs w) pairs))) (a ∷ [])
+unfolding separatedIcflEnds separatedPairs
 invented-count d =
-    let gave = d .pieces [] (0 ∷ []) [] (1 ∷ []) (Counted.Count 2) (refl, refl, refl) refl in
+    let gave = d .pieces [] (0 ∷ 0 ∷ []) [] (1 ∷ 1 ∷ []) (Counted.Count 2) (refl, refl, refl) refl in
     let z : _≡_ {A = ℕ} 2 1 = cc in
     omega arith
 
 -- and one whose refusal carries 0, so that it would pass for a result
-pub refused-by-0 : ¬ Demand1 (cutter (Answering (λ w work entries. Counted.Refused 0) (λ w ends. ends)))
+pub refused-by-0 : ¬ Demand1 (cutter (Answering (λ w work entries. Counted.Refused 0) (λ w pairs. pairs)))
 refused-by-0 d =
     let z : 0 < 0 = d .pieceCut [] [] [] [] [] (Counted.Refused 0) (refl, refl, refl) .0 .positive 0 refl in
     omega arith
 
 -- ---- cuts with breaks that are right but for the breaks, which are f w, or for the lines under which the ends are written
 
-abbrev reasonedLines : (List ℕ → List Break) → List ℕ → (work ends breaks : ℕ) → List Line
-reasonedLines f w work ends breaks = icflLines w work ends ++ resultLine breaks (5 * length (f w)) ∷ []
+abbrev reasonedLines : (List ℕ → List Break) → List ℕ → (work pairs breaks : ℕ) → List Line
+reasonedLines f w work pairs breaks = icflLines w work pairs ++ resultLine breaks (5 * length (f w)) ∷ []
 
-pub record ReasonsBy (f : List ℕ → List Break) (endLines : List ℕ → (work ends breaks : ℕ) → List Line) (w work ends breaks : List ℕ) (r : CountedBreaks)
-    (work′ ends′ breaks′ : List ℕ) : Type 0 where
-  pub answer : r ≡ CountedBreaks.Counts (length (separatedIcflEnds w)) (length (f w)) unless reasonedLines f w (length work) (length ends) (length breaks)
+pub record ReasonsBy (f : List ℕ → List Break) (endLines : List ℕ → (work pairs breaks : ℕ) → List Line) (w work pairs breaks : List ℕ) (r : CountedBreaks)
+    (work′ pairs′ breaks′ : List ℕ) : Type 0 where
+  pub answer : r ≡ CountedBreaks.Counts (length (separatedIcflEnds w)) (length (f w)) unless reasonedLines f w (length work) (length pairs) (length breaks)
       then CountedBreaks.Refused
-  pub ends-are : ends′ ≡ written (separatedIcflEnds w) ends unless endLines w (length work) (length ends) (length breaks) then (λ number. ends)
-  pub breaks-are : breaks′ ≡ written (entriesOf (f w)) breaks unless reasonedLines f w (length work) (length ends) (length breaks) then (λ number. breaks)
-  pub worked : work′ ≡ cleared (3 * length w) work unless reasonedLines f w (length work) (length ends) (length breaks) then workAfter (3 * length w) work
+  pub pairs-are : pairs′ ≡ written (separatedPairs w) pairs unless endLines w (length work) (length pairs) (length breaks) then (λ number. pairs)
+  pub breaks-are : breaks′ ≡ written (entriesOf (f w)) breaks unless reasonedLines f w (length work) (length pairs) (length breaks) then (λ number. breaks)
+  pub worked : work′ ≡ cleared (3 * length w) work unless reasonedLines f w (length work) (length pairs) (length breaks) then workAfter (3 * length w) work
 
 -- "A short buffer for them is met by refusal 4, once the ends have been found to fit": one that has written the ends by then
-pub ends-before-breaks-fit : ¬ Demand1 (reasoner (ReasonsBy separatedBreaks (λ w work ends breaks. icflLines w work ends)))
-unfolding tried separatedIcflEnds separatedBreaks
+pub ends-before-breaks-fit : ¬ Demand1 (reasoner (ReasonsBy separatedBreaks (λ w work pairs breaks. icflLines w work pairs)))
+unfolding tried separatedIcflEnds separatedPairs separatedBreaks
 ends-before-breaks-fit d =
-    let told = d .reasonedCut (a ∷ b ∷ []) (replicate 6 0) (0 ∷ 0 ∷ []) [] (replicate 6 0) (1 ∷ 2 ∷ []) [] (CountedBreaks.Refused 4)
-    (record { answer = refl; ends-are = refl; breaks-are = refl; worked = refl }) in
+    let told = d .reasonedCut (a ∷ b ∷ []) (replicate 6 0) (replicate 4 0) [] (replicate 6 0) (1 ∷ 1 ∷ 2 ∷ 1 ∷ []) [] (CountedBreaks.Refused 4)
+    (record { answer = refl; pairs-are = refl; breaks-are = refl; worked = refl }) in
     let z : _≡_ {A = ℕ} 1 0 = ap (λ (t : List ℕ). getD t 0 0) (told .1 4 refl) in
     omega arith
 
@@ -179,29 +191,29 @@ pub other-breaks : (f : List ℕ → List Break) (w : List ℕ) → 1 ≤ length
     → ¬ Demand2 (reasoner (ReasonsBy f (reasonedLines f))) w
 other-breaks f w s l n d =
     let work : List ℕ = replicate (3 * length w) 0 in
-    let ends : List ℕ = replicate (length (separatedIcflEnds w)) 0 in
+    let pairs : List ℕ = replicate (2 * length (separatedIcflEnds w)) 0 in
     let breaks : List ℕ = replicate (5 * length (f w)) 0 in
     let size-work : length work ≡ 3 * length w = length-replicate (3 * length w) 0 in
-    let size-ends : length ends ≡ length (separatedIcflEnds w) = length-replicate (length (separatedIcflEnds w)) 0 in
+    let size-pairs : length pairs ≡ 2 * length (separatedIcflEnds w) = length-replicate (2 * length (separatedIcflEnds w)) 0 in
     let size-breaks : length breaks ≡ 5 * length (f w) = length-replicate (5 * length (f w)) 0 in
-    let none : tried (reasonedLines f w (length work) (length ends) (length breaks)) ≡ Passed
-    = all-pass (reasonedLines f w (length work) (length ends) (length breaks)) (
+    let none : tried (reasonedLines f w (length work) (length pairs) (length breaks)) ≡ Passed
+    = all-pass (reasonedLines f w (length work) (length pairs) (length breaks)) (
       ne-eqb (length w) 0 (λ z. omega arith),
       (
         le-ltb mostLetters (length w) l,
         (
           le-ltb (length work) (3 * length w) (omega (arith, size-work)),
           (
-            le-ltb (length ends) (length (separatedIcflEnds w)) (omega (arith, size-ends)),
+            le-ltb (length pairs) (2 * length (separatedIcflEnds w)) (omega (arith, size-pairs)),
             (le-ltb (length breaks) (5 * length (f w)) (omega (arith, size-breaks)), search),
           ),
         ),
       ),
     ) in
-    let cut : ReasonsBy f (reasonedLines f) w work ends breaks (CountedBreaks.Counts (length (separatedIcflEnds w)) (length (f w)))
-    (cleared (3 * length w) work) (written (separatedIcflEnds w) ends) (written (entriesOf (f w)) breaks) =
-    record { answer = rw none refl; ends-are = rw none refl; breaks-are = rw none refl; worked = rw none refl } in
-    let gave = d .reasons work ends breaks _ _ _ _ cut refl in
+    let cut : ReasonsBy f (reasonedLines f) w work pairs breaks (CountedBreaks.Counts (length (separatedIcflEnds w)) (length (f w)))
+    (cleared (3 * length w) work) (written (separatedPairs w) pairs) (written (entriesOf (f w)) breaks) =
+    record { answer = rw none refl; pairs-are = rw none refl; breaks-are = rw none refl; worked = rw none refl } in
+    let gave = d .reasons work pairs breaks _ _ _ _ cut refl in
     let same : length (separatedBreaks w) ≡ length (f w) = sym cc in
     let front = take-at (entriesOf (f w)) (drop (length (entriesOf (f w))) breaks) (5 * length (f w)) (length-entries (f w)) in
     n (sym front ∙ (rw same at (gave .breaks)))

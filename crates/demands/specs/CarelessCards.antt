@@ -17,7 +17,7 @@ use Rattle.demands.specs.Calls.{Calls, library}
 use Rattle.demands.specs.Demands.{Demand1, Singly, none, next, Demands}
 
 abbrev Card : Type 1
-Card = (bytes es work ends : List ℕ) (r : Batch) (work′ ends′ : List ℕ) → Type 0
+Card = (bytes es work pairs : List ℕ) (r : Batch) (work′ pairs′ : List ℕ) → Type 0
 
 -- the library with another call for cards
 abbrev cards : Card → Calls
@@ -36,9 +36,9 @@ cards card = record {
 
 -- right buffers, and f of the right answers, whatever the list of record ends is
 abbrev Answering : (List Counted → List Counted) → Card
-Answering f bytes es work ends r work′ ends′ =
-    (r ≡ batchWith 0 (f (batchOf bytes es work ends .answers)))
-    × (work′ ≡ batchOf bytes es work ends .work) × (ends′ ≡ batchOf bytes es work ends .ends)
+Answering f bytes es work pairs r work′ pairs′ =
+    (r ≡ batchWith 0 (f (batchOf bytes es work pairs .answers)))
+    × (work′ ≡ batchOf bytes es work pairs .work) × (pairs′ ≡ batchOf bytes es work pairs .pairs)
 
 -- one that refuses no list: an empty one is cut as a card without records
 pub refuses-none : ¬ Demand1 (cards (Answering (λ answers. answers)))
@@ -55,16 +55,16 @@ abbrev stopped : Calls
 stopped = cards (Answering untilRefused)
 
 -- the second record of two, an empty one and a, has one factor
-second : (answers : List Counted) (work′ ends′ : List ℕ) → Singly stopped ([] ∷ (a ∷ []) ∷ []) (replicate 3 0) (0 ∷ []) answers work′ ends′
+second : (answers : List Counted) (work′ pairs′ : List ℕ) → Singly stopped ([] ∷ (a ∷ []) ∷ []) (replicate 3 0) (0 ∷ 0 ∷ []) answers work′ pairs′
     → getD (placesOf answers) 1 (place (Counted.Count 0)) .answer ≡ Counted.Count 1
 unfolding tried separatedIcflEnds
-second answers work′ ends′ (next d (next e none)) =
+second answers work′ pairs′ (next d (next e none)) =
     e .filled .answer ∙ rw (d .worked, d .filled .result, d .filled .answer) refl
 
 pub stops-at-refusal : ¬ Demands stopped
 unfolding tried faultyRecordEnds falls lastOf recordsFrom cutRecord cutRecords separatedIcflEnds untilRefused
 stops-at-refusal d =
-    let h = d .card (a ∷ []) (0 ∷ 1 ∷ []) (replicate 3 0) (0 ∷ []) _ _ _ (refl, refl, refl) refl in
+    let h = d .card (a ∷ []) (0 ∷ 1 ∷ []) (replicate 3 0) (0 ∷ 0 ∷ []) _ _ _ (refl, refl, refl) refl in
     let at-1 : List Place → Counted = λ places. getD places 1 (place (Counted.Count 0)) .answer in
-    let z : _≡_ {A = ℕ} 0 1 = ap entriesUsed (ap at-1 (h .places) ∙ second (h .answers) _ _ (h .singly)) in
+    let z : _≡_ {A = ℕ} 0 2 = ap entriesUsed (ap at-1 (h .places) ∙ second (h .answers) _ _ (h .singly)) in
     omega arith

@@ -23,21 +23,21 @@ use Rattle.compare.specs.Compare.{signOf}
 use Rattle.demands.specs.Calls.{Calls, library}
 use Rattle.demands.specs.Demands.{Demand1, Demand2}
 use Rattle.demands.specs.Meets.{Meets}
-use Rattle.demands.specs.Careless.{cutter, CutsAt, other-ends, Answering, aboveZero}
+use Rattle.demands.specs.Careless.{cutter, CutsAt, countedAt, other-ends, Answering, aboveZero}
 
-abbrev m : ℕ
+abbrev pub m : ℕ
 m = 255
 
 -- ---- cuts
 
 -- 255 as the hottest level, as paper 01 had it: `ff 61` is one falling piece then
-pub level-for-mark : ¬ Demand2 (cutter (CutsAt icflEnds)) (m ∷ a ∷ [])
+pub level-for-mark : ¬ Demand2 (cutter (CutsAt (countedAt icflEnds))) (m ∷ a ∷ [])
 unfolding icflEnds separatedIcflEnds
 level-for-mark = other-ends icflEnds (m ∷ a ∷ []) (omega arith) (omega arith)
     (λ e. let z : _≡_ {A = ℕ} 2 1 = ap (λ (t : List ℕ). getD t 0 0) e in omega arith)
 
 -- two neighbouring marks as one piece
-pub marks-as-one : (f : List ℕ → List ℕ) → f (m ∷ m ∷ a ∷ []) ≡ 2 ∷ 3 ∷ [] → ¬ Demand2 (cutter (CutsAt f)) (m ∷ m ∷ a ∷ [])
+pub marks-as-one : (f : List ℕ → List ℕ) → f (m ∷ m ∷ a ∷ []) ≡ 2 ∷ 3 ∷ [] → ¬ Demand2 (cutter (CutsAt (countedAt f))) (m ∷ m ∷ a ∷ [])
 unfolding separatedIcflEnds
 marks-as-one f x = other-ends f (m ∷ m ∷ a ∷ []) (omega arith) (omega arith)
     (λ e. let z : _≡_ {A = ℕ} 2 1 = ap (λ (t : List ℕ). getD t 0 0) (sym x ∙ e) in omega arith)
@@ -45,9 +45,9 @@ marks-as-one f x = other-ends f (m ∷ m ∷ a ∷ []) (omega arith) (omega arit
 -- the test's refusal passed up: 9 for a record that holds a mark
 pub cut-refused-by-9 : ¬ Demand1 (cutter (Answering
     (λ w work entries. Counted.Count (length (separatedIcflEnds w)) unless icflAdmission w work ++ markLine w ∷ [] then Counted.Refused)
-    (λ w ends. ends)))
+    (λ w pairs. pairs)))
 unfolding tried separatedIcflEnds isMarked
-cut-refused-by-9 d = not-both refl (d .pieceCut (m ∷ []) (replicate 3 0) (0 ∷ []) _ _ (Counted.Refused 9) (refl, refl, refl) .0 .first)
+cut-refused-by-9 d = not-both refl (d .pieceCut (m ∷ []) (replicate 3 0) (0 ∷ 0 ∷ []) _ _ (Counted.Refused 9) (refl, refl, refl) .0 .first)
 
 -- ---- tests, by the lines that they try
 

@@ -8,14 +8,17 @@ use lib.ListN.{length}
 use lib.IntN.{ℤ, pos, negsuc}
 use Rattle.words.specs.Words.{sign, commonWithin}
 use Rattle.words.specs.Separated.{separatedIcflEnds, separatedCflInEnds}
+use Rattle.words.specs.Pairs.{endsOf}
 use Rattle.words.specs.SeparatedStatements.{UnmarkedPieces, SeparatedDemand3}
 use Rattle.words.specs.Statements.{WholePieces}
 use Rattle.words.specs.orders.SignLaws.{SignOf, before, equal, after, sign-is}
 use Rattle.words.specs.orders.CommonWithin.{common-within-is, common-within-same, common-within-sym, common-within-range}
 use Rattle.words.specs.places.Parts.{rises-below}
 use Rattle.words.specs.stretches.Factors.{separated-icfl-ends-rise}
+use Rattle.words.specs.stretches.RecordPairs.{pairs-ends}
 use Rattle.words.specs.stretches.SeparatedDemand3.{separated-demand-3}
 use Rattle.checks.proofs.LineLaws.{filled-front}
+use Rattle.icfl.proofs.IcflCases.{pairs-front}
 use Rattle.compare.specs.declared.suffixes.Comparison.{Comparison}
 use Rattle.compare.specs.Compare.{signOf, commonOf, orderOf}
 use Rattle.compare.proofs.ComparisonLaws.{Within, within-passes}
@@ -25,7 +28,9 @@ use Rattle.demands.specs.Meets.{Meets}
 
 module _ (c : Calls) (m : Meets c) (w es ss : List ℕ) (compare : ℕ → ℕ → ℕ → ℕ → Comparison) (r : Runs c w es ss compare) where
   pieces-are : es ≡ separatedIcflEnds w
-  pieces-are = let q = r .pieceCut in q .6 ∙ filled-front (m .pieceCut w _ _ _ _ _ (q .5) .filled) .0
+  pieces-are =
+      let q = r .pieceCut in
+      q .6 ∙ (ap endsOf (pairs-front (m .pieceCut w _ _ _ _ _ (q .5)) .0) ∙ pairs-ends w)
 
   strict-are : ss ≡ separatedCflInEnds w
   strict-are = let q = r .strictCut in q .4 ∙ filled-front (m .strictCut w _ _ _ (q .3)) .0

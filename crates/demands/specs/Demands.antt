@@ -27,6 +27,7 @@ use Rattle.words.specs.Separated.{
   separatedCflInEnds,
   separatedBreaks,
 }
+use Rattle.words.specs.Pairs.{separatedPairs, endsOf, PairsOf}
 use Rattle.words.specs.SeparatedStatements.{UnlessMark, SeparatedOf, moved, endsOver, keptEndsOf, UnmarkedPieces}
 use Rattle.words.specs.Runs.{Triple, Earlier, IsSeparatedRun, Rising}
 use Rattle.buffers.specs.Buffers.{written}
@@ -77,16 +78,16 @@ pub record UntouchedBut4 (n : ℕ) (said : Checked) (work work′ : List ℕ) : 
 pub record Demand1 (c : Calls) : Type 0 where
   pub test : (w work work′ : List ℕ) (r : Extension) → c .Test w work r work′
       → Answers (1 ∷ 2 ∷ 3 ∷ 9 ∷ []) (extensionLines w (length work)) (testChecked r) × Untouched (testChecked r) work work′
-  pub pieceCut : (w work ends work′ ends′ : List ℕ) (r : Counted) → c .PieceCut w work ends r work′ ends′
-      → Answers (1 ∷ 2 ∷ 3 ∷ 4 ∷ []) (icflLines w (length work) (length ends)) (countChecked r) × Untouched (countChecked r) ends ends′
+  pub pieceCut : (w work pairs work′ pairs′ : List ℕ) (r : Counted) → c .PieceCut w work pairs r work′ pairs′
+      → Answers (1 ∷ 2 ∷ 3 ∷ 4 ∷ []) (icflLines w (length work) (length pairs)) (countChecked r) × Untouched (countChecked r) pairs pairs′
       × UntouchedBut4 (3 * length w) (countChecked r) work work′
-  -- request 102: the same with breaks beside the ends
-  pub reasonedCut : (w work ends breaks work′ ends′ breaks′ : List ℕ) (r : CountedBreaks) → c .ReasonedCut w work ends breaks r work′ ends′ breaks′
-      → Answers (1 ∷ 2 ∷ 3 ∷ 4 ∷ []) (breaksLines w (length work) (length ends) (length breaks)) (breaksChecked r) × Untouched (breaksChecked r) ends ends′
+  -- request 102: the same with breaks beside the pairs
+  pub reasonedCut : (w work pairs breaks work′ pairs′ breaks′ : List ℕ) (r : CountedBreaks) → c .ReasonedCut w work pairs breaks r work′ pairs′ breaks′
+      → Answers (1 ∷ 2 ∷ 3 ∷ 4 ∷ []) (breaksLines w (length work) (length pairs) (length breaks)) (breaksChecked r) × Untouched (breaksChecked r) pairs pairs′
       × Untouched (breaksChecked r) breaks breaks′ × UntouchedBut4 (3 * length w) (breaksChecked r) work work′
   -- request 105: 10 for the card, "checked before any record"; "With refusal 10 all of them" hold a result of 0
-  pub card : (bytes es work ends work′ ends′ : List ℕ) (r : Batch) → c .CardCut bytes es work ends r work′ ends′
-      → Answers (10 ∷ []) (batchLines es (length bytes)) (numbered (r .refusal)) × Untouched (numbered (r .refusal)) ends ends′
+  pub card : (bytes es work pairs work′ pairs′ : List ℕ) (r : Batch) → c .CardCut bytes es work pairs r work′ pairs′
+      → Answers (10 ∷ []) (batchLines es (length bytes)) (numbered (r .refusal)) × Untouched (numbered (r .refusal)) pairs pairs′
       × Untouched (numbered (r .refusal)) work work′ × ((e : ℕ) → numbered (r .refusal) ≡ Refused e → r .places ≡ placesOf [])
   pub strictCut : (w ends ends′ : List ℕ) (r : Counted) → c .StrictCut w ends r ends′
       → Answers (1 ∷ 2 ∷ 4 ∷ []) (cflInLines w (length ends)) (countChecked r) × Untouched (countChecked r) ends ends′
@@ -97,9 +98,9 @@ pub record Demand1 (c : Calls) : Type 0 where
       → Answers (1 ∷ 2 ∷ 4 ∷ []) (runsLines w (length out)) (countChecked r) × Untouched (countChecked r) out out′
   pub comparison : (w : List ℕ) (first end start other : ℕ) (r : Comparison) → c .Comparing w first end start other r
       → Answers (1 ∷ 2 ∷ 5 ∷ 6 ∷ []) (compareLines w first end start other) (comparisonChecked r)
-  pub reader : (w es : List ℕ) (k : ℕ) (part : List ℕ) (number : ℕ) → c .Reading w es k part number
-      → Answers (1 ∷ 2 ∷ 7 ∷ 8 ∷ []) (factorLines w es k) (numbered number)
-  pub summary : (w es : List ℕ) (r : Summary) → c .Summing w es r → Answers (1 ∷ 2 ∷ 7 ∷ []) (summaryLines w es) (numbered (r .refusal))
+  pub reader : (w ps : List ℕ) (k : ℕ) (part : List ℕ) (number : ℕ) → c .Reading w ps k part number
+      → Answers (1 ∷ 2 ∷ 7 ∷ 8 ∷ []) (factorLines w ps k) (numbered number)
+  pub summary : (w ps : List ℕ) (r : Summary) → c .Summing w ps r → Answers (1 ∷ 2 ∷ 7 ∷ []) (summaryLines w ps) (numbered (r .refusal))
 
 -- ---- request 105, the answers for the records of a card that is not refused
 
@@ -110,15 +111,15 @@ pub data Singly (c : Calls) : (records : List (List ℕ)) (work left : List ℕ)
   next : {w work left work₁ left₁ work′ left′ : List ℕ} {ws : List (List ℕ)} {a : Counted} {answers : List Counted} → c .PieceCut w work left a work₁ left₁
       → Singly c ws work₁ (drop (entriesUsed a) left₁) answers work′ left′ → Singly c (w ∷ ws) work left (a ∷ answers) work′ (take (entriesUsed a) left₁ ++ left′)
 
-pub record CardAnswered (c : Calls) (bytes es work ends : List ℕ) (r : Batch) (work′ ends′ : List ℕ) : Type 0 where
+pub record CardAnswered (c : Calls) (bytes es work pairs : List ℕ) (r : Batch) (work′ pairs′ : List ℕ) : Type 0 where
   pub answers : List Counted
   -- "The answers come in the card's order, in 64 places; those past the last record hold a result of 0."
   pub places : r .places ≡ placesOf answers
-  pub singly : Singly c (recordsFrom 0 es bytes) work ends answers work′ ends′
-  -- the ends without gaps, and the work buffer's zeros up to 3 times the longest record that was cut or refused by 4
-  pub left : Left (recordsFrom 0 es bytes) answers work ends work′ ends′
-  -- as many entries as bytes are enough
-  pub enough : length bytes ≤ length ends → (a : Counted) → List·Memᴰ a answers → ¬ (a ≡ Counted.Refused 4)
+  pub singly : Singly c (recordsFrom 0 es bytes) work pairs answers work′ pairs′
+  -- the pairs without gaps, and the work buffer's zeros up to 3 times the longest record that was cut or refused by 4
+  pub left : Left (recordsFrom 0 es bytes) answers work pairs work′ pairs′
+  -- two entries a byte are enough
+  pub enough : 2 * length bytes ≤ length pairs → (a : Counted) → List·Memᴰ a answers → ¬ (a ≡ Counted.Refused 4)
 
 -- ---- request 107, the answer for a record w that is not refused
 
@@ -143,10 +144,15 @@ pub record Gave (vs : List ℕ) (r : Counted) (buffer′ : List ℕ) : Type 0 wh
   pub count : r ≡ Counted.Count (length vs)
   pub entries : take (length vs) buffer′ ≡ vs
 
+-- request 108: "the cut still answers with the number of pieces", and their pairs stand at the buffer's front
+pub record GavePairs (w : List ℕ) (r : Counted) (buffer′ : List ℕ) : Type 0 where
+  pub count : r ≡ Counted.Count (length (separatedIcflEnds w))
+  pub entries : take (2 * length (separatedIcflEnds w)) buffer′ ≡ separatedPairs w
+
 -- the answer is both numbers, and both lists stand at their buffers' fronts
-pub record GaveBoth (w : List ℕ) (r : CountedBreaks) (ends′ breaks′ : List ℕ) : Type 0 where
+pub record GaveBoth (w : List ℕ) (r : CountedBreaks) (pairs′ breaks′ : List ℕ) : Type 0 where
   pub counts : r ≡ CountedBreaks.Counts (length (separatedIcflEnds w)) (length (separatedBreaks w))
-  pub ends : take (length (separatedIcflEnds w)) ends′ ≡ separatedIcflEnds w
+  pub pairs : take (2 * length (separatedIcflEnds w)) pairs′ ≡ separatedPairs w
   pub breaks : take (5 * length (separatedBreaks w)) breaks′ ≡ entriesOf (separatedBreaks w)
 
 -- "The pieces .. are those of the published recursive definition", for a nonempty stretch v
@@ -163,9 +169,14 @@ pub record Published (v : List ℕ) : Type 0 where
   pub only : (ls : List (List ℕ)) → CflInOf v ls → ls ≡ cflIn v
 
 pub record Demand2 (c : Calls) (w : List ℕ) : Type 0 where
-  -- "The pieces of a record of 1 to 4,096 bytes .."
-  pub pieces : (work ends work′ ends′ : List ℕ) (r : Counted) → c .PieceCut w work ends r work′ ends′ → countChecked r ≡ Passed
-      → Gave (separatedIcflEnds w) r ends′
+  -- "The pieces of a record of 1 to 4,096 bytes .."; request 108: "the end and the number of strict pieces inside"
+  pub pieces : (work pairs work′ pairs′ : List ℕ) (r : Counted) → c .PieceCut w work pairs r work′ pairs′ → countChecked r ≡ Passed → GavePairs w r pairs′
+  pub counted : PairsOf w (separatedPairs w)
+  -- "The reader and the summary take the paired list": that of the piece cut is not refused
+  pub read : (work pairs work′ pairs′ : List ℕ) (n : ℕ) → c .PieceCut w work pairs (Counted.Count n) work′ pairs′
+      → (k : ℕ) (part : List ℕ) (number : ℕ) → c .Reading w (take (2 * n) pairs′) k part number → k < n → number ≡ 0
+  pub summed : (work pairs work′ pairs′ : List ℕ) (n : ℕ) → c .PieceCut w work pairs (Counted.Count n) work′ pairs′
+      → (r : Summary) → c .Summing w (take (2 * n) pairs′) r → r .refusal ≡ 0
   -- request 103: "Each mark is a piece and a strict piece of its own .. Each nonempty stretch between neighbouring marks or the record's edges is cut as a record
   -- by itself": so it is made, and it is the only list of the kind
   pub alone : (i : ℕ) → getD w i 0 ≡ separator → Part (separatedIcflEnds w) i (i + 1) × Part (separatedCflInEnds w) i (i + 1)
@@ -180,8 +191,8 @@ pub record Demand2 (c : Calls) (w : List ℕ) : Type 0 where
   pub falls : (work work′ : List ℕ) → c .Test w work Extension.InverseLyndon work′ → InverseLyndon w
   pub fails : (work work′ : List ℕ) (l p r : ℕ) → c .Test w work (Extension.Failing l p r) work′ → BoundedExtension w l p r
   -- request 102: "gives beside the ends every break the cut considered, and both counts"
-  pub reasons : (work ends breaks work′ ends′ breaks′ : List ℕ) (r : CountedBreaks) → c .ReasonedCut w work ends breaks r work′ ends′ breaks′
-      → breaksChecked r ≡ Passed → GaveBoth w r ends′ breaks′
+  pub reasons : (work pairs breaks work′ pairs′ breaks′ : List ℕ) (r : CountedBreaks) → c .ReasonedCut w work pairs breaks r work′ pairs′ breaks′
+      → breaksChecked r ≡ Passed → GaveBoth w r pairs′ breaks′
   -- "Breaks are given by stretch, in the record's places": those of a stretch at place i are its own, moved there
   pub breaksByStretches : separatedBreaks w ≡ breaksOver 0 (stretches w)
   pub places : (i : ℕ) (v : List ℕ) → breaksFrom i v ≡ map (moved i) (icflBreaks v)
@@ -240,7 +251,7 @@ pub record Runs (c : Calls) (w es ss : List ℕ) (compare : ℕ → ℕ → ℕ 
   pub nonempty : 1 ≤ length w
   pub short : length w ≤ mostLetters
   pub bytes : UpToSeparator w
-  pub pieceCut : (work ends work′ ends′ : List ℕ) × (n : ℕ) × c .PieceCut w work ends (Counted.Count n) work′ ends′ × (es ≡ take n ends′)
+  pub pieceCut : (work pairs work′ pairs′ : List ℕ) × (n : ℕ) × c .PieceCut w work pairs (Counted.Count n) work′ pairs′ × (es ≡ endsOf (take (2 * n) pairs′))
   pub strictCut : (ends ends′ : List ℕ) × (n : ℕ) × c .StrictCut w ends (Counted.Count n) ends′ × (ss ≡ take n ends′)
   pub comparison : (first end start other : ℕ) → c .Comparing w first end start other (compare first end start other)
 
@@ -251,6 +262,6 @@ pub record Demands (c : Calls) : Type 0 where
   pub second : (w : List ℕ) → 1 ≤ length w → length w ≤ mostLetters → Demand2 c w
   pub third : (w es ss : List ℕ) (compare : ℕ → ℕ → ℕ → ℕ → Comparison) → Runs c w es ss compare → Demand3 w es ss compare
   pub given : (w : List ℕ) → 1 ≤ length w → length w ≤ mostLetters → UpToSeparator w → (es ss : List ℕ) × (compare : ℕ → ℕ → ℕ → ℕ → Comparison) × Runs c w es ss compare
-  pub card : (bytes es work ends work′ ends′ : List ℕ) (r : Batch) → c .CardCut bytes es work ends r work′ ends′ → numbered (r .refusal) ≡ Passed
-      → CardAnswered c bytes es work ends r work′ ends′
+  pub card : (bytes es work pairs work′ pairs′ : List ℕ) (r : Batch) → c .CardCut bytes es work pairs r work′ pairs′ → numbered (r .refusal) ≡ Passed
+      → CardAnswered c bytes es work pairs r work′ pairs′
   pub repetitions : (w out out′ : List ℕ) (r : Counted) → c .Repetitions w out r out′ → countChecked r ≡ Passed → RepetitionsListed w out r out′

@@ -24,6 +24,8 @@ use Rattle.words.specs.Factorizations.{longestAntiLyndon}
 use Rattle.words.specs.table.LyndonTableCflIn.{lyndon-table-at}
 use Rattle.words.specs.stretches.Separation.{stretches-joined, stretches-unmarked}
 use Rattle.words.specs.stretches.StretchBreaks.{breaks-moved}
+use Rattle.words.specs.Pairs.{separatedPairs, endsOf}
+use Rattle.words.specs.stretches.RecordPairs.{pairs-entries, pairs-are}
 use Rattle.words.specs.stretches.StretchEnds.{separated-kept-ends}
 use Rattle.words.specs.stretches.Factors.{separated-icfl-is, separated-icfl-unique, separated-cfl-in-is, separated-cfl-in-unique}
 use Rattle.words.specs.stretches.CflInSteps.{separator-part}
@@ -49,9 +51,10 @@ use Rattle.compare.specs.declared.suffixes.Comparison.{Comparison}
 use Rattle.compare.specs.Compare.{comparisonChecked, compareLines, orderOf}
 use Rattle.summary.specs.Summary.{summaryLines, summaryOf, emptySummary}
 use Rattle.demands.specs.Calls.{Calls, library, exported}
-use Rattle.demands.specs.Demands.{Answers, Untouched, UntouchedBut4, Demand1, Gave, GaveBoth, Published, Demand2, Demands}
+use Rattle.demands.specs.Demands.{Answers, Untouched, UntouchedBut4, Demand1, Gave, GavePairs, GaveBoth, Published, Demand2, Demands}
 use Rattle.demands.specs.Meets.{Meets, Total, library-meets, library-total, exported-meets, exported-total}
 use Rattle.demands.specs.Demand3Holds.{demand-3}
+use Rattle.demands.specs.PairsHold.{own-read, own-summed}
 use Rattle.demands.specs.RunsExist.{runs-exist}
 use Rattle.demands.specs.CardHolds.{card-answered}
 use Rattle.demands.specs.RepetitionsHold.{repetitions-listed}
@@ -82,20 +85,20 @@ numbered-answers numbers lines z h p = answers numbers lines (ap numbered z ∙ 
 filled-says : {lines : List Line} {n : ℕ} {vs buffer buffer′ : List ℕ} {r : Counted} → Filled lines n vs buffer r buffer′ → countChecked r ≡ tried lines
 filled-says {lines} {n} f = ap countChecked (f .answer) ∙ said countChecked (Counted.Count n) (λ (i : ℕ). Counted.Refused i) refl (λ number. refl) (tried lines)
 
-breaks-say : {w work ends breaks work′ ends′ breaks′ : List ℕ} {r : CountedBreaks} → BreaksDone w work ends breaks r work′ ends′ breaks′
-    → breaksChecked r ≡ tried (breaksLines w (length work) (length ends) (length breaks))
-breaks-say {w} {work} {ends} {breaks} f =
-    let lines = breaksLines w (length work) (length ends) (length breaks) in
+breaks-say : {w work pairs breaks work′ pairs′ breaks′ : List ℕ} {r : CountedBreaks} → BreaksDone w work pairs breaks r work′ pairs′ breaks′
+    → breaksChecked r ≡ tried (breaksLines w (length work) (length pairs) (length breaks))
+breaks-say {w} {work} {pairs} {breaks} f =
+    let lines = breaksLines w (length work) (length pairs) (length breaks) in
     let result = CountedBreaks.Counts (length (separatedIcflEnds w)) (length (separatedBreaks w)) in
     ap breaksChecked (f .answer) ∙ said breaksChecked result (λ (i : ℕ). CountedBreaks.Refused i) refl (λ number. refl) (tried lines)
 
-card-number : {bytes es work ends work′ ends′ : List ℕ} {r : Batch} → BatchDone bytes es work ends r work′ ends′
+card-number : {bytes es work pairs work′ pairs′ : List ℕ} {r : Batch} → BatchDone bytes es work pairs r work′ pairs′
     → r .refusal ≡ numberOf (tried (batchLines es (length bytes)))
-card-number {bytes} {es} {work} {ends} f =
+card-number {bytes} {es} {work} {pairs} f =
     ap (λ (b : Batch). b .refusal) (f .answer)
-    ∙ reading (λ (b : Batch). b .refusal) (batchWith 0 (batchOf bytes es work ends .answers)) (λ number. batchWith number []) (tried (batchLines es (length bytes)))
+    ∙ reading (λ (b : Batch). b .refusal) (batchWith 0 (batchOf bytes es work pairs .answers)) (λ number. batchWith number []) (tried (batchLines es (length bytes)))
 
-card-says : {bytes es work ends work′ ends′ : List ℕ} {r : Batch} → BatchDone bytes es work ends r work′ ends′
+card-says : {bytes es work pairs work′ pairs′ : List ℕ} {r : Batch} → BatchDone bytes es work pairs r work′ pairs′
     → numbered (r .refusal) ≡ tried (batchLines es (length bytes))
 card-says {bytes} {es} f = ap numbered (card-number f) ∙ numbered-is (batchLines es (length bytes)) refl
 
@@ -127,16 +130,16 @@ module _ (c : Calls) (m : Meets c) where
         let f = m .test w work r work′ h in
         let says = ap testChecked (f .answer) ∙ verdict-checked w (tried (extensionLines w (length work))) in
         (answers _ _ says refl refl, untouched _ _ _ says (f .buffer));
-    pieceCut = λ w work ends work′ ends′ r h.
-        let f = m .pieceCut w work ends r work′ ends′ h in
+    pieceCut = λ w work pairs work′ pairs′ r h.
+        let f = m .pieceCut w work pairs r work′ pairs′ h in
         let says = filled-says (f .filled) in
         (answers _ _ says refl refl, untouched _ _ _ says (f .filled .result), untouched-but-4 _ _ _ says (f .worked));
-    reasonedCut = λ w work ends breaks work′ ends′ breaks′ r h.
-        let f = m .reasonedCut w work ends breaks r work′ ends′ breaks′ h in
+    reasonedCut = λ w work pairs breaks work′ pairs′ breaks′ r h.
+        let f = m .reasonedCut w work pairs breaks r work′ pairs′ breaks′ h in
         let says = breaks-say f in
-        (answers _ _ says refl refl, untouched _ _ _ says (f .ends-are), untouched _ _ _ says (f .breaks-are), untouched-but-4 _ _ _ says (f .worked));
-    card = λ bytes es work ends work′ ends′ r h.
-        let f = m .card bytes es work ends r work′ ends′ h in
+        (answers _ _ says refl refl, untouched _ _ _ says (f .pairs-are), untouched _ _ _ says (f .breaks-are), untouched-but-4 _ _ _ says (f .worked));
+    card = λ bytes es work pairs work′ pairs′ r h.
+        let f = m .card bytes es work pairs r work′ pairs′ h in
         let says = card-says f in (
           numbered-answers _ _ (card-number f) refl refl,
           untouched _ _ _ says (f .result),
@@ -158,9 +161,9 @@ module _ (c : Calls) (m : Meets c) where
         (ap comparisonChecked (m .comparison w first end start other r h .answer)
         ∙ said comparisonChecked result (λ (i : ℕ). Comparison.Refused i) refl (λ number. refl) (tried (compareLines w first end start other)))
         refl refl;
-    reader = λ w es k part number h. numbered-answers _ _ (m .reader w es k part number h .number-is) refl refl;
-    summary = λ w es r h.
-        numbered-answers _ _ (ap (λ s. s .refusal) (m .summary w es r h .answer) ∙ summary-number es (tried (summaryLines w es))) refl refl;
+    reader = λ w ps k part number h. numbered-answers _ _ (m .reader w ps k part number h .number-is) refl refl;
+    summary = λ w ps r h.
+        numbered-answers _ _ (ap (λ s. s .refusal) (m .summary w ps r h .answer) ∙ summary-number (endsOf ps) (tried (summaryLines w ps))) refl refl;
   }
 
 -- ---- demand 2
@@ -174,14 +177,23 @@ gave {lines} {n} {vs} {buffer} z f e =
       entries = rw (rw none at (f .result)) (take-at vs (drop (length vs) buffer) (length vs) refl);
     }
 
+gave-pairs : (w : List ℕ) {lines : List Line} {buffer buffer′ : List ℕ} {r : Counted}
+    → Filled lines (length (separatedIcflEnds w)) (separatedPairs w) buffer r buffer′ → countChecked r ≡ Passed → GavePairs w r buffer′
+gave-pairs w {lines} {buffer} f e =
+    let none : tried lines ≡ Passed = sym (filled-says f) ∙ e in
+    record {
+      count = rw none at (f .answer);
+      entries = rw (rw none at (f .result)) (take-at (separatedPairs w) (drop (length (separatedPairs w)) buffer) (2 * length (separatedIcflEnds w)) (pairs-entries w));
+    }
+
 -- both lists at their buffers' fronts
-gave-both : (w work ends breaks work′ ends′ breaks′ : List ℕ) (r : CountedBreaks) → BreaksDone w work ends breaks r work′ ends′ breaks′
-    → breaksChecked r ≡ Passed → GaveBoth w r ends′ breaks′
-gave-both w work ends breaks work′ ends′ breaks′ r f e =
-    let none : tried (breaksLines w (length work) (length ends) (length breaks)) ≡ Passed = sym (breaks-say f) ∙ e in
+gave-both : (w work pairs breaks work′ pairs′ breaks′ : List ℕ) (r : CountedBreaks) → BreaksDone w work pairs breaks r work′ pairs′ breaks′
+    → breaksChecked r ≡ Passed → GaveBoth w r pairs′ breaks′
+gave-both w work pairs breaks work′ pairs′ breaks′ r f e =
+    let none : tried (breaksLines w (length work) (length pairs) (length breaks)) ≡ Passed = sym (breaks-say f) ∙ e in
     record {
       counts = rw none at (f .answer);
-      ends = rw (rw none at (f .ends-are)) (take-at (separatedIcflEnds w) (drop (length (separatedIcflEnds w)) ends) (length (separatedIcflEnds w)) refl);
+      pairs = rw (rw none at (f .pairs-are)) (take-at (separatedPairs w) (drop (length (separatedPairs w)) pairs) (2 * length (separatedIcflEnds w)) (pairs-entries w));
       breaks = rw (rw none at (f .breaks-are)) (take-at (entriesOf (separatedBreaks w)) _ (5 * length (separatedBreaks w)) (length-entries (separatedBreaks w)));
     }
 
@@ -216,7 +228,10 @@ module _ (c : Calls) (m : Meets c) (w : List ℕ) (s : 1 ≤ length w) where
   pub demand-2 : length w ≤ mostLetters → Demand2 c w
   unfolding separatedIcfl separatedCflIn separatedTable separatedBreaks
   demand-2 q = record {
-    pieces = λ work ends work′ ends′ r h. gave refl (m .pieceCut w work ends r work′ ends′ h .filled);
+    pieces = λ work pairs work′ pairs′ r h. gave-pairs w (m .pieceCut w work pairs r work′ pairs′ h .filled);
+    counted = pairs-are w;
+    read = own-read w s q c m;
+    summed = own-summed w s q c m;
     alone = separator-part w;
     byStretches = refl;
     divided = separated-icfl-is w;
@@ -227,8 +242,8 @@ module _ (c : Calls) (m : Meets c) (w : List ℕ) (s : 1 ≤ length w) where
     falls = λ work work′ h.
         holds-told w Extension.InverseLyndon (inl refl) (verdict-is w work work′ Extension.InverseLyndon (m .test w work Extension.InverseLyndon work′ h) refl);
     fails = λ work work′ l p r h. verdict-fails w work work′ l p r s (m .test w work (Extension.Failing l p r) work′ h);
-    reasons = λ work ends breaks work′ ends′ breaks′ r h.
-        gave-both w work ends breaks work′ ends′ breaks′ r (m .reasonedCut w work ends breaks r work′ ends′ breaks′ h);
+    reasons = λ work pairs breaks work′ pairs′ breaks′ r h.
+        gave-both w work pairs breaks work′ pairs′ breaks′ r (m .reasonedCut w work pairs breaks r work′ pairs′ breaks′ h);
     breaksByStretches = refl;
     places = breaks-moved;
     keptEnds = separated-kept-ends w;
@@ -252,9 +267,9 @@ demands c m t = record {
   second = λ w s l. demand-2 c m w s l;
   third = demand-3 c m;
   given = λ w s l up. runs-exist w s l c m t up;
-  card = λ bytes es work ends work′ ends′ r h e.
-      let f = m .card bytes es work ends r work′ ends′ h in
-      card-answered c m t bytes es work ends work′ ends′ r f (sym (card-says f) ∙ e);
+  card = λ bytes es work pairs work′ pairs′ r h e.
+      let f = m .card bytes es work pairs r work′ pairs′ h in
+      card-answered c m t bytes es work pairs work′ pairs′ r f (sym (card-says f) ∙ e);
   repetitions = λ w out out′ r h e.
       let f = m .repetitions w out r out′ h in
       repetitions-listed w out out′ r f (sym (filled-says f) ∙ e);

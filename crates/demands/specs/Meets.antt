@@ -37,6 +37,7 @@ use Rattle.table.specs.Table.{Tabled}
 use Rattle.runs.specs.Runs.{RunsDone}
 use Rattle.compare.specs.declared.suffixes.Comparison.{Comparison}
 use Rattle.compare.specs.Compare.{compareLines, orderOf, Compared}
+use Rattle.words.specs.Pairs.{endsOf}
 use Rattle.reading.specs.Factor.{factorLines, factorFrom, FactorAt}
 use Rattle.summary.specs.declared.Summary.{Summary}
 use Rattle.summary.specs.Summary.{Summarized}
@@ -47,11 +48,11 @@ use Rattle.demands.specs.Calls.{Calls, library, exported, verdictBy, cou
 
 pub record Meets (c : Calls) : Type 0 where
   pub test : (w work : List ℕ) (r : Extension) (work′ : List ℕ) → c .Test w work r work′ → ExtensionFound w work r work′
-  pub pieceCut : (w work ends : List ℕ) (r : Counted) (work′ ends′ : List ℕ) → c .PieceCut w work ends r work′ ends′ → IcflDone w work ends r work′ ends′
-  pub reasonedCut : (w work ends breaks : List ℕ) (r : CountedBreaks) (work′ ends′ breaks′ : List ℕ) → c .ReasonedCut w work ends breaks r work′ ends′ breaks′
-      → BreaksDone w work ends breaks r work′ ends′ breaks′
-  pub card : (bytes es work ends : List ℕ) (r : Batch) (work′ ends′ : List ℕ) → c .CardCut bytes es work ends r work′ ends′
-      → BatchDone bytes es work ends r work′ ends′
+  pub pieceCut : (w work pairs : List ℕ) (r : Counted) (work′ pairs′ : List ℕ) → c .PieceCut w work pairs r work′ pairs′ → IcflDone w work pairs r work′ pairs′
+  pub reasonedCut : (w work pairs breaks : List ℕ) (r : CountedBreaks) (work′ pairs′ breaks′ : List ℕ) → c .ReasonedCut w work pairs breaks r work′ pairs′ breaks′
+      → BreaksDone w work pairs breaks r work′ pairs′ breaks′
+  pub card : (bytes es work pairs : List ℕ) (r : Batch) (work′ pairs′ : List ℕ) → c .CardCut bytes es work pairs r work′ pairs′
+      → BatchDone bytes es work pairs r work′ pairs′
   pub strictCut : (w ends : List ℕ) (r : Counted) (ends′ : List ℕ) → c .StrictCut w ends r ends′ → CflInDone w ends r ends′
   pub startTable : (w out : List ℕ) (r : Counted) (out′ : List ℕ) → c .StartTable w out r out′ → Tabled w out r out′
   pub repetitions : (w out : List ℕ) (r : Counted) (out′ : List ℕ) → c .Repetitions w out r out′ → RunsDone w out r out′
@@ -61,7 +62,7 @@ pub record Meets (c : Calls) : Type 0 where
 
 -- the three calls of demand 3 answer
 pub record Total (c : Calls) : Type 0 where
-  pub pieceCut : (w work ends : List ℕ) → (r : Counted) × (work′ ends′ : List ℕ) × c .PieceCut w work ends r work′ ends′
+  pub pieceCut : (w work pairs : List ℕ) → (r : Counted) × (work′ pairs′ : List ℕ) × c .PieceCut w work pairs r work′ pairs′
   pub strictCut : (w ends : List ℕ) → (r : Counted) × (ends′ : List ℕ) × c .StrictCut w ends r ends′
   pub comparison : (w : List ℕ) (first end start other : ℕ) → (r : Comparison) × c .Comparing w first end start other r
 
@@ -70,9 +71,9 @@ pub record Total (c : Calls) : Type 0 where
 pub library-meets : Meets library
 library-meets = record {
   test = λ w work r work′ h. h;
-  pieceCut = λ w work ends r work′ ends′ h. h;
-  reasonedCut = λ w work ends breaks r work′ ends′ breaks′ h. h;
-  card = λ bytes es work ends r work′ ends′ h. h;
+  pieceCut = λ w work pairs r work′ pairs′ h. h;
+  reasonedCut = λ w work pairs breaks r work′ pairs′ breaks′ h. h;
+  card = λ bytes es work pairs r work′ pairs′ h. h;
   strictCut = λ w ends r ends′ h. h;
   startTable = λ w out r out′ h. h;
   repetitions = λ w out r out′ h. h;
@@ -83,7 +84,7 @@ library-meets = record {
 
 pub library-total : Total library
 library-total = record {
-  pieceCut = λ w work ends. (_, _, _, record { filled = record { answer = refl; result = refl }; worked = refl });
+  pieceCut = λ w work pairs. (_, _, _, record { filled = record { answer = refl; result = refl }; worked = refl });
   strictCut = λ w ends. (_, _, record { answer = refl; result = refl });
   comparison = λ w first end start other. (_, record { answer = refl });
 }
@@ -107,15 +108,15 @@ filled-by lines p {n} {count = count} f z = record {
   result = f .result;
 }
 
-breaks-by : (w work ends breaks : List ℕ) {e n k : ℕ} {work′ ends′ breaks′ : List ℕ} {r : CountedBreaks}
-    → BreaksNumbers w work ends breaks e n k work′ ends′ breaks′ → r ≡ countsBy e n k → BreaksDone w work ends breaks r work′ ends′ breaks′
-breaks-by w work ends breaks {n = n} {k = k} f z =
-    let lines = breaksLines w (length work) (length ends) (length breaks) in
+breaks-by : (w work pairs breaks : List ℕ) {e n k : ℕ} {work′ pairs′ breaks′ : List ℕ} {r : CountedBreaks}
+    → BreaksNumbers w work pairs breaks e n k work′ pairs′ breaks′ → r ≡ countsBy e n k → BreaksDone w work pairs breaks r work′ pairs′ breaks′
+breaks-by w work pairs breaks {n = n} {k = k} f z =
+    let lines = breaksLines w (length work) (length pairs) (length breaks) in
     let result = CountedBreaks.Counts (length (separatedIcflEnds w)) (length (separatedBreaks w)) in
     record {
       answer = z ∙ back lines refl result (CountedBreaks.Counts n k) (λ (i : ℕ). CountedBreaks.Refused i) (f .refusal)
           (λ h. rw (rw h at (f .count-is), rw h at (f .breaks-count)));
-      ends-are = f .ends-are;
+      pairs-are = f .pairs-are;
       breaks-are = f .breaks-are;
       worked = f .worked;
     }
@@ -124,8 +125,8 @@ breaks-by w work ends breaks {n = n} {k = k} f z =
 abbrev Readable : Counted → Type 0
 Readable a = countBy (replyOf a .refusal) (replyOf a .count) ≡ a
 
-single-readable : (w work ends : List ℕ) → Readable (icflAnswer w work ends)
-single-readable w work ends = go (tried (icflLines w (length work) (length ends))) (numbered-is (icflLines w (length work) (length ends)) refl)
+single-readable : (w work pairs : List ℕ) → Readable (icflAnswer w work pairs)
+single-readable w work pairs = go (tried (icflLines w (length work) (length pairs))) (numbered-is (icflLines w (length work) (length pairs)) refl)
   where
     go : (k : Checked) → numbered (numberOf k) ≡ k → Readable (decided k (Counted.Count (length (separatedIcflEnds w))) Counted.Refused)
     go Passed h = refl
@@ -142,22 +143,22 @@ places-back (a ∷ answers) h n =
     ap (λ (x : Counted). place x ∷ readBack (repliesOf (map place answers ++ replicate n (place (Counted.Count 0))))) (h .0)
     ∙ ap (λ (t : List Place). place a ∷ t) (places-back answers (h .1) n)
 
-batch-by : (bytes es work ends : List ℕ) {x : Replies} {work′ ends′ : List ℕ} {r : Batch} → BatchNumbers bytes es work ends x work′ ends′ → r ≡ batchBy x
-    → BatchDone bytes es work ends r work′ ends′
-batch-by bytes es work ends f z = record {
+batch-by : (bytes es work pairs : List ℕ) {x : Replies} {work′ pairs′ : List ℕ} {r : Batch} → BatchNumbers bytes es work pairs x work′ pairs′ → r ≡ batchBy x
+    → BatchDone bytes es work pairs r work′ pairs′
+batch-by bytes es work pairs f z = record {
   answer = z ∙ ap batchBy (f .answer) ∙ go (tried (batchLines es (length bytes)));
   result = f .result;
   worked = f .worked;
 }
   where
-    readable : Every Readable (batchOf bytes es work ends .answers)
-    readable = rw (batch-answers bytes es work ends) (every-added Readable single-readable (uncut work ends) (recordsFrom 0 es bytes))
+    readable : Every Readable (batchOf bytes es work pairs .answers)
+    readable = rw (batch-answers bytes es work pairs) (every-added Readable single-readable (uncut work pairs) (recordsFrom 0 es bytes))
 
-    go : (k : Checked) → batchBy (decided k (repliesWith 0 (batchOf bytes es work ends .answers)) (λ number. repliesWith number []))
-        ≡ decided k (batchWith 0 (batchOf bytes es work ends .answers)) (λ number. batchWith number [])
+    go : (k : Checked) → batchBy (decided k (repliesWith 0 (batchOf bytes es work pairs .answers)) (λ number. repliesWith number []))
+        ≡ decided k (batchWith 0 (batchOf bytes es work pairs .answers)) (λ number. batchWith number [])
     go Passed =
         ap (λ (t : List Place). record { refusal = 0; places = t })
-        (places-back (batchOf bytes es work ends .answers) readable (mostRecords - length (batchOf bytes es work ends .answers)))
+        (places-back (batchOf bytes es work pairs .answers) readable (mostRecords - length (batchOf bytes es work pairs .answers)))
     go (Refused number) = ap (λ (t : List Place). record { refusal = number; places = t }) (places-back [] tt mostRecords)
 
 -- L tells the verdict: it is 0 for an inverse Lyndon word alone
@@ -195,31 +196,31 @@ order-by w first end start other {s = s} {n = n} f z = record {
 }
 
 -- from 0 to 0, the part beside a refusal is empty
-part-by : (w es : List ℕ) (k : ℕ) {e i j : ℕ} {part : List ℕ} → FactorNumbers w es k e i j → part ≡ slice i j w → FactorAt w es k part e
-part-by w es k {i = i} {j = j} {part} f z = record { number-is = f .refusal; part-is = go (tried (factorLines w es k)) (f .first-is) (f .end-is) }
+part-by : (w ps : List ℕ) (k : ℕ) {e i j : ℕ} {part : List ℕ} → FactorNumbers w ps k e i j → part ≡ slice i j w → FactorAt w ps k part e
+part-by w ps k {i = i} {j = j} {part} f z = record { number-is = f .refusal; part-is = go (tried (factorLines w ps k)) (f .first-is) (f .end-is) }
   where
-    go : (q : Checked) → i ≡ decided q (factorFrom es k) (λ number. 0) → j ≡ decided q (getD es k 0) (λ number. 0)
-        → part ≡ decided q (slice (factorFrom es k) (getD es k 0) w) (λ number. [])
+    go : (q : Checked) → i ≡ decided q (factorFrom (endsOf ps) k) (λ number. 0) → j ≡ decided q (getD (endsOf ps) k 0) (λ number. 0)
+        → part ≡ decided q (slice (factorFrom (endsOf ps) k) (getD (endsOf ps) k 0) w) (λ number. [])
     go Passed x y = rw (x, y) at z
     go (Refused number) x y = (rw (x, y) at z) ∙ slice-empty 0 w
 
 pub exported-meets : Meets exported
 exported-meets = record {
   test = λ w work r work′ h. test-by w work (h .5) (h .4);
-  pieceCut = λ w work ends r work′ ends′ h. record { filled = filled-by _ refl (h .3 .filled) (h .2); worked = h .3 .worked };
-  reasonedCut = λ w work ends breaks r work′ ends′ breaks′ h. breaks-by w work ends breaks (h .4) (h .3);
-  card = λ bytes es work ends r work′ ends′ h. batch-by bytes es work ends (h .2) (h .1);
+  pieceCut = λ w work pairs r work′ pairs′ h. record { filled = filled-by _ refl (h .3 .filled) (h .2); worked = h .3 .worked };
+  reasonedCut = λ w work pairs breaks r work′ pairs′ breaks′ h. breaks-by w work pairs breaks (h .4) (h .3);
+  card = λ bytes es work pairs r work′ pairs′ h. batch-by bytes es work pairs (h .2) (h .1);
   strictCut = λ w ends r ends′ h. filled-by _ refl (h .3) (h .2);
   startTable = λ w out r out′ h. filled-by _ refl (h .3) (h .2);
   repetitions = λ w out r out′ h. filled-by _ refl (h .3) (h .2);
   comparison = λ w first end start other r h. order-by w first end start other (h .4) (h .3);
-  reader = λ w es k part number h. part-by w es k (h .3) (h .2);
+  reader = λ w ps k part number h. part-by w ps k (h .3) (h .2);
   summary = λ w es r h. h;
 }
 
 pub exported-total : Total exported
 exported-total = record {
-  pieceCut = λ w work ends. (_, _, _, (_, _, refl, record { filled = record { refusal = refl; count-is = refl; result = refl }; worked = refl }));
+  pieceCut = λ w work pairs. (_, _, _, (_, _, refl, record { filled = record { refusal = refl; count-is = refl; result = refl }; worked = refl }));
   strictCut = λ w ends. (_, _, (_, _, refl, record { refusal = refl; count-is = refl; result = refl }));
   comparison = λ w first end start other. (_, (_, _, _, refl, record { refusal = refl; sign-is = refl; common-is = refl }));
 }

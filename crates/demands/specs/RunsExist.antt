@@ -8,6 +8,7 @@ use lib.ListN.{length, take, replicate, length-replicate}
 use borrow.Author.Tests.{ne-eqb, le-ltb}
 use Rattle.words.specs.Words.{mostLetters}
 use Rattle.words.specs.Separated.{UpToSeparator, separatedIcflEnds, separatedCflInEnds}
+use Rattle.words.specs.Pairs.{endsOf}
 use Rattle.words.specs.places.EndsRise.{rises-few}
 use Rattle.words.specs.stretches.Factors.{separated-icfl-ends-rise, separated-cfl-in-ends-rise}
 use Rattle.checks.specs.Lines.{tried}
@@ -22,11 +23,11 @@ use Rattle.demands.specs.Demands.{Runs}
 use Rattle.demands.specs.Meets.{Meets, Total}
 
 module _ (w : List ℕ) (s : 1 ≤ length w) (l : length w ≤ mostLetters) where
-  icfl-room : (work ends : ℕ) → 3 * length w ≤ work → length w ≤ ends → tried (icflLines w work ends) ≡ Passed
+  icfl-room : (work ends : ℕ) → 3 * length w ≤ work → 2 * length w ≤ ends → tried (icflLines w work ends) ≡ Passed
   icfl-room work ends p q =
-      let few : length (separatedIcflEnds w) ≤ ends = omega (arith, rises-few (separated-icfl-ends-rise w)) in
+      let few : 2 * length (separatedIcflEnds w) ≤ ends = omega (arith, rises-few (separated-icfl-ends-rise w)) in
       all-pass (icflLines w work ends)
-      (ne-eqb (length w) 0 (λ z. omega arith), (le-ltb mostLetters (length w) l, (le-ltb work (3 * length w) p, (le-ltb ends (length (separatedIcflEnds w)) few, search))))
+      (ne-eqb (length w) 0 (λ z. omega arith), (le-ltb mostLetters (length w) l, (le-ltb work (3 * length w) p, (le-ltb ends (2 * length (separatedIcflEnds w)) few, search))))
 
   cfl-in-room : (ends : ℕ) → length w ≤ ends → tried (cflInLines w ends) ≡ Passed
   cfl-in-room ends q =
@@ -36,7 +37,7 @@ module _ (w : List ℕ) (s : 1 ≤ length w) (l : length w ≤ mostLetters) wher
 
   module _ (c : Calls) (m : Meets c) where
     -- lent enough entries, the cuts give results
-    pub pieces-given : (work ends work′ ends′ : List ℕ) (r : Counted) → 3 * length w ≤ length work → length w ≤ length ends
+    pub pieces-given : (work ends work′ ends′ : List ℕ) (r : Counted) → 3 * length w ≤ length work → 2 * length w ≤ length ends
         → c .PieceCut w work ends r work′ ends′ → r ≡ Counted.Count (length (separatedIcflEnds w))
     pieces-given work ends work′ ends′ r p q h = rw (icfl-room (length work) (length ends) p q) at (m .pieceCut w work ends r work′ ends′ h .filled .answer)
 
@@ -46,14 +47,14 @@ module _ (w : List ℕ) (s : 1 ≤ length w) (l : length w ≤ mostLetters) wher
     pub runs-exist : Total c → UpToSeparator w → (es ss : List ℕ) × (compare : ℕ → ℕ → ℕ → ℕ → Comparison) × Runs c w es ss compare
     runs-exist t up =
         let work : List ℕ = replicate (3 * length w) 0 in
-        let ends : List ℕ = replicate (length w) 0 in
-        let size : length ends ≡ length w = length-replicate (length w) 0 in
+        let ends : List ℕ = replicate (2 * length w) 0 in
+        let size : length ends ≡ 2 * length w = length-replicate (2 * length w) 0 in
         let size-work : length work ≡ 3 * length w = length-replicate (3 * length w) 0 in
         let a = t .pieceCut w work ends in
         let b = t .strictCut w ends in
         let given = pieces-given work ends (a .1) (a .2) (a .0) (omega (arith, size-work)) (omega (arith, size)) (a .3) in
         let strict = strict-given ends (b .1) (b .0) (omega (arith, size)) (b .2) in (
-          take (length (separatedIcflEnds w)) (a .2),
+          endsOf (take (2 * length (separatedIcflEnds w)) (a .2)),
           take (length (separatedCflInEnds w)) (b .1),
           (λ first end start other. t .comparison w first end start other .0),
           record {

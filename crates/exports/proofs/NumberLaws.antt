@@ -63,8 +63,8 @@ small w lines {n} l f = rw (f .answer) (go (tried (recordLines w ++ lines)) refl
     go Passed z = omega (arith, accepted w lines z .short)
     go (Refused number) z = tt
 
-pub icfl-small : (w work ends work′ ends′ : List ℕ) (r : Counted) → IcflDone w work ends r work′ ends′ → Small r
-icfl-small w work ends work′ ends′ r f = small w _ (omega (arith, rises-few (separated-icfl-ends-rise w))) (f .filled)
+pub icfl-small : (w work pairs work′ pairs′ : List ℕ) (r : Counted) → IcflDone w work pairs r work′ pairs′ → Small r
+icfl-small w work pairs work′ pairs′ r f = small w _ (omega (arith, rises-few (separated-icfl-ends-rise w))) (f .filled)
 
 pub cfl-in-small : (w ends ends′ : List ℕ) (r : Counted) → CflInDone w ends r ends′ → Small r
 cfl-in-small w ends ends′ r f = small w _ (omega (arith, rises-few (separated-cfl-in-ends-rise w))) f
@@ -86,12 +86,12 @@ abbrev breaksOf : CountedBreaks → ℕ
 breaksOf (CountedBreaks.Counts factors breaks) = breaks
 breaksOf (CountedBreaks.Refused e) = 0
 
-module _ (w work ends breaks work′ ends′ breaks′ : List ℕ) where
+module _ (w work pairs breaks work′ pairs′ breaks′ : List ℕ) where
   abbrev lines : List Line
-  lines = breaksLines w (length work) (length ends) (length breaks)
+  lines = breaksLines w (length work) (length pairs) (length breaks)
 
-  pub breaks-numbers : (r : CountedBreaks) → BreaksDone w work ends breaks r work′ ends′ breaks′
-      → BreaksNumbers w work ends breaks (numberOf (breaksChecked r)) (factorsOf r) (breaksOf r) work′ ends′ breaks′
+  pub breaks-numbers : (r : CountedBreaks) → BreaksDone w work pairs breaks r work′ pairs′ breaks′
+      → BreaksNumbers w work pairs breaks (numberOf (breaksChecked r)) (factorsOf r) (breaksOf r) work′ pairs′ breaks′
   breaks-numbers r f =
       let counts : CountedBreaks = CountedBreaks.Counts (length (separatedIcflEnds w)) (length (separatedBreaks w)) in
       let refusal : ℕ → CountedBreaks = λ i. CountedBreaks.Refused i in
@@ -99,13 +99,13 @@ module _ (w work ends breaks work′ ends′ breaks′ : List ℕ) where
         refusal = ap (λ t. numberOf (breaksChecked t)) (f .answer) ∙ reading (λ t. numberOf (breaksChecked t)) counts refusal (tried lines);
         count-is = ap factorsOf (f .answer) ∙ reading factorsOf counts refusal (tried lines);
         breaks-count = ap breaksOf (f .answer) ∙ reading breaksOf counts refusal (tried lines);
-        ends-are = f .ends-are;
+        pairs-are = f .pairs-are;
         breaks-are = f .breaks-are;
         worked = f .worked;
       }
 
   -- both counts are at most the length
-  pub breaks-small : (n m : ℕ) → BreaksDone w work ends breaks (CountedBreaks.Counts n m) work′ ends′ breaks′ → (n ≤ mostLetters) × (m ≤ mostLetters)
+  pub breaks-small : (n m : ℕ) → BreaksDone w work pairs breaks (CountedBreaks.Counts n m) work′ pairs′ breaks′ → (n ≤ mostLetters) × (m ≤ mostLetters)
   breaks-small n m f = go (tried lines) refl (f .answer)
     where
       go : (k : Checked) → tried lines ≡ k

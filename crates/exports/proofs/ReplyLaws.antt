@@ -118,35 +118,35 @@ placed-length answers =
     ∙ ap (λ (n : ℕ). n + length (replicate (mostRecords - length answers) (place (Counted.Count 0)))) (length-map answers place)
     ∙ ap (λ (n : ℕ). length answers + n) (length-replicate (mostRecords - length answers) (place (Counted.Count 0)))
 
-single-small : (w work ends : List ℕ) → Small (icflAnswer w work ends)
-single-small w work ends = icfl-small w work ends _ _ _ (record { filled = record { answer = refl; result = refl }; worked = refl })
+single-small : (w work pairs : List ℕ) → Small (icflAnswer w work pairs)
+single-small w work pairs = icfl-small w work pairs _ _ _ (record { filled = record { answer = refl; result = refl }; worked = refl })
 
-module _ (bytes es work ends work′ ends′ : List ℕ) (r : Batch) (f : BatchDone bytes es work ends r work′ ends′) where
+module _ (bytes es work pairs work′ pairs′ : List ℕ) (r : Batch) (f : BatchDone bytes es work pairs r work′ pairs′) where
   abbrev lines : List Line
   lines = batchLines es (length bytes)
 
   abbrev done : Batch
-  done = batchWith 0 (batchOf bytes es work ends .answers)
+  done = batchWith 0 (batchOf bytes es work pairs .answers)
 
-  answers-small : Every Small (batchOf bytes es work ends .answers)
-  answers-small = rw (batch-answers bytes es work ends) (every-added Small single-small (uncut work ends) (recordsFrom 0 es bytes))
+  answers-small : Every Small (batchOf bytes es work pairs .answers)
+  answers-small = rw (batch-answers bytes es work pairs) (every-added Small single-small (uncut work pairs) (recordsFrom 0 es bytes))
 
   pub batch-small : EachSmall (r .places)
   batch-small = rw (f .answer) (go (tried lines))
     where
       go : (k : Checked) → EachSmall (decided k done (λ number. batchWith number []) .places)
-      go Passed = placed-small (batchOf bytes es work ends .answers) answers-small
+      go Passed = placed-small (batchOf bytes es work pairs .answers) answers-small
       go (Refused number) = placed-small [] tt
 
-  few : tried lines ≡ Passed → length (batchOf bytes es work ends .answers) ≤ mostRecords
-  few p = omega (arith, batch-count bytes es work ends, listed es (length bytes) (unmet lines p .0) .few)
+  few : tried lines ≡ Passed → length (batchOf bytes es work pairs .answers) ≤ mostRecords
+  few p = omega (arith, batch-count bytes es work pairs, listed es (length bytes) (unmet lines p .0) .few)
 
   pub batch-full : length (r .places) ≡ mostRecords
   batch-full = rw (f .answer) (go (tried lines) refl)
     where
       go : (k : Checked) → tried lines ≡ k → length (decided k done (λ number. batchWith number []) .places) ≡ mostRecords
       go Passed p =
-          placed-length (batchOf bytes es work ends .answers) ∙ omega (arith, few p)
+          placed-length (batchOf bytes es work pairs .answers) ∙ omega (arith, few p)
       go (Refused number) p = refl
 
   -- past the last record, or past the last place, the replies at 0 are right
@@ -159,12 +159,12 @@ module _ (bytes es work ends work′ ends′ : List ℕ) (r : Batch) (f : BatchD
     where
       go : (k : Checked) → tried lines ≡ k → (mostRecords ≤ i) ⊎ (length es ≤ i)
           → (let places = decided k done (λ number. batchWith number []) .places in take i places ++ replicate (mostRecords - i) (place (Counted.Count 0)) ≡ places)
-      go Passed p (inl x) = placed-past (batchOf bytes es work ends .answers) i (omega (arith, few p, x)) (g .inside)
-      go Passed p (inr x) = placed-past (batchOf bytes es work ends .answers) i (omega (arith, batch-count bytes es work ends, x)) (g .inside)
+      go Passed p (inl x) = placed-past (batchOf bytes es work pairs .answers) i (omega (arith, few p, x)) (g .inside)
+      go Passed p (inr x) = placed-past (batchOf bytes es work pairs .answers) i (omega (arith, batch-count bytes es work pairs, x)) (g .inside)
       go (Refused number) p x = placed-past [] i (omega arith) (g .inside)
 
   pub batch-numbers : {replies : List Reply} {i : ℕ} → Replied (r .places) replies i → (ltb i mostRecords && ltb i (length es)) ≡ false
-      → BatchNumbers bytes es work ends (record { refusal = r .refusal; replies = replies }) work′ ends′
+      → BatchNumbers bytes es work pairs (record { refusal = r .refusal; replies = replies }) work′ pairs′
   batch-numbers g h = record {
     answer = ap (λ (t : List Reply). record { refusal = r .refusal; replies = t }) (replied-all g h)
         ∙ ap numbers (f .answer)

@@ -9,6 +9,7 @@ use lib.IntN.{ℤ, pos}
 use Rattle.words.specs.Words.{isInverseLyndon, sign, commonWithin}
 use Rattle.words.specs.Factorizations.{failingLength, prefixLength, borderLength}
 use Rattle.words.specs.Separated.{separatedIcflEnds, separatedBreaks, separatedCflInEnds, separatedTable}
+use Rattle.words.specs.Pairs.{separatedPairs, endsOf}
 use Rattle.words.specs.Runs.{separatedRuns}
 use Rattle.buffers.specs.Buffers.{cleared, written}
 use Rattle.checks.specs.Lines.{Line, tried, _unless_then_}
@@ -46,17 +47,17 @@ pub record FilledNumbers (lines : List Line) (n : ℕ) (vs buffer : List ℕ) (r
   pub count-is : count ≡ n unless lines then (λ number. 0)
   pub result : buffer′ ≡ written vs buffer unless lines then (λ number. buffer)
 
-pub record IcflNumbers (w work ends : List ℕ) (r count : ℕ) (work′ ends′ : List ℕ) : Type 0 where
-  pub filled : FilledNumbers (icflLines w (length work) (length ends)) (length (separatedIcflEnds w)) (separatedIcflEnds w) ends r count ends′
-  pub worked : work′ ≡ cleared (3 * length w) work unless icflLines w (length work) (length ends) then workAfter (3 * length w) work
+pub record IcflNumbers (w work pairs : List ℕ) (r count : ℕ) (work′ pairs′ : List ℕ) : Type 0 where
+  pub filled : FilledNumbers (icflLines w (length work) (length pairs)) (length (separatedIcflEnds w)) (separatedPairs w) pairs r count pairs′
+  pub worked : work′ ≡ cleared (3 * length w) work unless icflLines w (length work) (length pairs) then workAfter (3 * length w) work
 
-pub record BreaksNumbers (w work ends breaks : List ℕ) (r count breakCount : ℕ) (work′ ends′ breaks′ : List ℕ) : Type 0 where
-  pub refusal : r ≡ numberOf (tried (breaksLines w (length work) (length ends) (length breaks)))
-  pub count-is : count ≡ length (separatedIcflEnds w) unless breaksLines w (length work) (length ends) (length breaks) then (λ number. 0)
-  pub breaks-count : breakCount ≡ length (separatedBreaks w) unless breaksLines w (length work) (length ends) (length breaks) then (λ number. 0)
-  pub ends-are : ends′ ≡ written (separatedIcflEnds w) ends unless breaksLines w (length work) (length ends) (length breaks) then (λ number. ends)
-  pub breaks-are : breaks′ ≡ written (entriesOf (separatedBreaks w)) breaks unless breaksLines w (length work) (length ends) (length breaks) then (λ number. breaks)
-  pub worked : work′ ≡ cleared (3 * length w) work unless breaksLines w (length work) (length ends) (length breaks) then workAfter (3 * length w) work
+pub record BreaksNumbers (w work pairs breaks : List ℕ) (r count breakCount : ℕ) (work′ pairs′ breaks′ : List ℕ) : Type 0 where
+  pub refusal : r ≡ numberOf (tried (breaksLines w (length work) (length pairs) (length breaks)))
+  pub count-is : count ≡ length (separatedIcflEnds w) unless breaksLines w (length work) (length pairs) (length breaks) then (λ number. 0)
+  pub breaks-count : breakCount ≡ length (separatedBreaks w) unless breaksLines w (length work) (length pairs) (length breaks) then (λ number. 0)
+  pub pairs-are : pairs′ ≡ written (separatedPairs w) pairs unless breaksLines w (length work) (length pairs) (length breaks) then (λ number. pairs)
+  pub breaks-are : breaks′ ≡ written (entriesOf (separatedBreaks w)) breaks unless breaksLines w (length work) (length pairs) (length breaks) then (λ number. breaks)
+  pub worked : work′ ≡ cleared (3 * length w) work unless breaksLines w (length work) (length pairs) (length breaks) then workAfter (3 * length w) work
 
 -- an answer as two numbers, and those of all places
 abbrev pub replyOf : Counted → Reply
@@ -69,10 +70,10 @@ repliesOf places = map (λ place. replyOf (place .answer)) places
 abbrev pub repliesWith : ℕ → List Counted → Replies
 repliesWith number answers = record { refusal = number; replies = repliesOf (placesOf answers) }
 
-pub record BatchNumbers (bytes es work ends : List ℕ) (r : Replies) (work′ ends′ : List ℕ) : Type 0 where
-  pub answer : r ≡ repliesWith 0 (batchOf bytes es work ends .answers) unless batchLines es (length bytes) then (λ number. repliesWith number [])
-  pub result : ends′ ≡ batchOf bytes es work ends .ends unless batchLines es (length bytes) then (λ number. ends)
-  pub worked : work′ ≡ batchOf bytes es work ends .work unless batchLines es (length bytes) then (λ number. work)
+pub record BatchNumbers (bytes es work pairs : List ℕ) (r : Replies) (work′ pairs′ : List ℕ) : Type 0 where
+  pub answer : r ≡ repliesWith 0 (batchOf bytes es work pairs .answers) unless batchLines es (length bytes) then (λ number. repliesWith number [])
+  pub result : pairs′ ≡ batchOf bytes es work pairs .pairs unless batchLines es (length bytes) then (λ number. pairs)
+  pub worked : work′ ≡ batchOf bytes es work pairs .work unless batchLines es (length bytes) then (λ number. work)
 
 abbrev pub CflInNumbers : List ℕ → List ℕ → ℕ → ℕ → List ℕ → Type 0
 CflInNumbers w ends r count ends′ = FilledNumbers (cflInLines w (length ends)) (length (separatedCflInEnds w)) (separatedCflInEnds w) ends r count ends′
@@ -90,10 +91,10 @@ pub record ComparisonNumbers (w : List ℕ) (first end start other r : ℕ) (s :
   pub common-is : common ≡ commonWithin w first end start other unless compareLines w first end start other then (λ number. 0)
 
 -- the part's places in the record
-pub record FactorNumbers (w es : List ℕ) (k r first end : ℕ) : Type 0 where
-  pub refusal : r ≡ numberOf (tried (factorLines w es k))
-  pub first-is : first ≡ factorFrom es k unless factorLines w es k then (λ number. 0)
-  pub end-is : end ≡ getD es k 0 unless factorLines w es k then (λ number. 0)
+pub record FactorNumbers (w ps : List ℕ) (k r first end : ℕ) : Type 0 where
+  pub refusal : r ≡ numberOf (tried (factorLines w ps k))
+  pub first-is : first ≡ factorFrom (endsOf ps) k unless factorLines w ps k then (λ number. 0)
+  pub end-is : end ≡ getD (endsOf ps) k 0 unless factorLines w ps k then (λ number. 0)
 
 -- ---- inner function
 

@@ -76,12 +76,12 @@ pub extern "C" fn metsroeb_test(
 pub extern "C" fn metsroeb_icfl(
     word: &[u8],
     work: &mut [u16],
-    ends: &mut [u16],
+    pairs: &mut [u16],
     count: &mut u16,
 ) -> u8
-    ensures { λ r. ⌜ IcflNumbers (now (word .entry)) (now (work .entry)) (now (ends .entry)) r (now (count .exit)) (now (work .exit)) (now (ends .exit)) ⌝ }
+    ensures { λ r. ⌜ IcflNumbers (now (word .entry)) (now (work .entry)) (now (pairs .entry)) r (now (count .exit)) (now (work .exit)) (now (pairs .exit)) ⌝ }
 {
-    let pieces = numbers_of(icfl::icfl(word, work, ends));
+    let pieces = numbers_of(icfl::icfl(word, work, pairs));
     *count = pieces.count;
     pieces.refusal
 }
@@ -90,15 +90,15 @@ pub extern "C" fn metsroeb_icfl(
 pub extern "C" fn metsroeb_icfl_breaks(
     word: &[u8],
     work: &mut [u16],
-    ends: &mut [u16],
+    pairs: &mut [u16],
     breaks: &mut [u16],
     count: &mut u16,
     break_count: &mut u16,
 ) -> u8
-    ensures { λ r. ⌜ BreaksNumbers (now (word .entry)) (now (work .entry)) (now (ends .entry)) (now (breaks .entry)) r
-        (now (count .exit)) (now («break_count» .exit)) (now (work .exit)) (now (ends .exit)) (now (breaks .exit)) ⌝ }
+    ensures { λ r. ⌜ BreaksNumbers (now (word .entry)) (now (work .entry)) (now (pairs .entry)) (now (breaks .entry)) r
+        (now (count .exit)) (now («break_count» .exit)) (now (work .exit)) (now (pairs .exit)) (now (breaks .exit)) ⌝ }
 {
-    let found = icfl::icfl_with_breaks(word, work, ends, breaks);
+    let found = icfl::icfl_with_breaks(word, work, pairs, breaks);
     match found {
         CountedBreaks::Counts {
             factors,
@@ -121,15 +121,15 @@ pub extern "C" fn metsroeb_icfl_batch(
     bytes: &[u8],
     record_ends: &[u32],
     work: &mut [u16],
-    ends: &mut [u16],
+    pairs: &mut [u16],
 ) -> Replies
-    ensures { λ r. ⌜ BatchNumbers (now (bytes .entry)) (now («record_ends» .entry)) (now (work .entry)) (now (ends .entry)) r (now (work .exit)) (now (ends .exit)) ⌝ }
+    ensures { λ r. ⌜ BatchNumbers (now (bytes .entry)) (now («record_ends» .entry)) (now (work .entry)) (now (pairs .entry)) r (now (work .exit)) (now (pairs .exit)) ⌝ }
 {
     let mut replies = [Reply {
         refusal: 0,
         count: 0,
     }; MOST_RECORDS];
-    let answers = batch::icfl_batch(bytes, record_ends, work, ends);
+    let answers = batch::icfl_batch(bytes, record_ends, work, pairs);
     let mut i: usize = 0;
     // Past the last record both hold 0.
     while (i < MOST_RECORDS) & (i < record_ends.len()) {
@@ -201,27 +201,27 @@ pub extern "C" fn metsroeb_compare(
 #[no_mangle]
 pub extern "C" fn metsroeb_factor(
     word: &[u8],
-    ends: &[u16],
+    pairs: &[u16],
     number: usize,
     first: &mut u16,
     end: &mut u16,
 ) -> u8
-    ensures { λ r. ⌜ FactorNumbers (now (word .entry)) (now (ends .entry)) number r (now (first .exit)) (now (end .exit)) ⌝ }
+    ensures { λ r. ⌜ FactorNumbers (now (word .entry)) (now (pairs .entry)) number r (now (first .exit)) (now (end .exit)) ⌝ }
 {
-    let admitted = reading::admit_factor(word, ends, number);
+    let admitted = reading::admit_factor(word, pairs, number);
     let Checked::Passed = admitted else {
         *first = 0;
         *end = 0;
         return admitted.number();
     };
-    *first = reading::factor_from(ends, number);
-    *end = ends[number];
+    *first = reading::factor_from(pairs, number);
+    *end = reading::factor_end(pairs, number);
     0
 }
 
 #[no_mangle]
-pub extern "C" fn metsroeb_summarize(word: &[u8], ends: &[u16]) -> Summary
-    ensures { λ r. ⌜ Summarized (now (word .entry)) (now (ends .entry)) r ⌝ }
+pub extern "C" fn metsroeb_summarize(word: &[u8], pairs: &[u16]) -> Summary
+    ensures { λ r. ⌜ Summarized (now (word .entry)) (now (pairs .entry)) r ⌝ }
 {
-    summary::summarize(word, ends)
+    summary::summarize(word, pairs)
 }

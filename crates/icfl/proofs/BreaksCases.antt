@@ -6,8 +6,8 @@ use Prim.Native.Nat.{ℕ, _-_, _*_, _≤_}
 use borrow.Author.Tests.{ltb-false}
 use lib.ListN.{length}
 use Rattle.words.specs.Separated.{separatedIcflEnds, separatedBreaks}
+use Rattle.words.specs.Pairs.{separatedPairs}
 use Rattle.buffers.specs.Buffers.{cleared, written}
-use Rattle.buffers.proofs.PartLaws.{part}
 use Rattle.checks.specs.Lines.{Line, tried, resultLine}
 use Rattle.checks.specs.Answers.{numberOf}
 use Rattle.checks.specs.declared.Checked.{Checked}
@@ -19,29 +19,29 @@ use Rattle.fates.specs.Entries.{entriesOf}
 use Rattle.icfl.specs.Icfl.{icflAdmission}
 use Rattle.icfl.specs.IcflBreaks.{breaksLines, BreaksDone}
 use Rattle.icfl.specs.declared.with_breaks.CountedBreaks.{CountedBreaks}
-use Rattle.icfl.proofs.IcflCases.{ends-count, ends-part, refused-worked, cut-worked}
+use Rattle.icfl.proofs.IcflCases.{ends-count, refused-worked, cut-worked}
 
 -- the two lines with number 4, by entries needed
-abbrev pub roomLines : (ends breaks factors count : ℕ) → List Line
-roomLines ends breaks factors count = resultLine ends factors ∷ resultLine breaks (5 * count) ∷ []
+abbrev pub roomLines : (pairs breaks factors count : ℕ) → List Line
+roomLines pairs breaks factors count = resultLine pairs (2 * factors) ∷ resultLine breaks (5 * count) ∷ []
 
-module _ (w work ends breaks : List ℕ) where
+module _ (w work pairs breaks : List ℕ) where
   abbrev room : List Line
-  room = roomLines (length ends) (length breaks) (length (separatedIcflEnds w)) (length (separatedBreaks w))
+  room = roomLines (length pairs) (length breaks) (length (separatedIcflEnds w)) (length (separatedBreaks w))
 
   abbrev lines : List Line
-  lines = breaksLines w (length work) (length ends) (length breaks)
+  lines = breaksLines w (length work) (length pairs) (length breaks)
 
   abbrev result : CountedBreaks
   result = CountedBreaks.Counts (length (separatedIcflEnds w)) (length (separatedBreaks w))
 
   pub breaks-unadmitted : {k : Checked} {m : ℕ} → k ≡ tried (icflAdmission w (length work)) → IsRefused k → m ≡ numberOf k
-      → BreaksDone w work ends breaks (CountedBreaks.Refused m) work ends breaks
+      → BreaksDone w work pairs breaks (CountedBreaks.Refused m) work pairs breaks
   breaks-unadmitted {k} e h z =
       let first : k ≡ tried lines = refused-first (icflAdmission w (length work)) room e h in
       record {
         answer = refused lines result (λ (i : ℕ). CountedBreaks.Refused i) first h z;
-        ends-are = refused lines (written (separatedIcflEnds w) ends) (λ (i : ℕ). ends) first h z;
+        pairs-are = refused lines (written (separatedPairs w) pairs) (λ (i : ℕ). pairs) first h z;
         breaks-are = refused lines (written (entriesOf (separatedBreaks w)) breaks) (λ (i : ℕ). breaks) first h z;
         worked = refused-worked w work room refl e h z;
       }
@@ -49,33 +49,33 @@ module _ (w work ends breaks : List ℕ) where
   module _ (p : tried (icflAdmission w (length work)) ≡ Passed) {found : Found} {work₁ work₂ : List ℕ} (x : CutFound w work found work₁)
       (l : length w ≤ length work₁) (y : work₂ ≡ cleared (3 * length w) work₁) where
     -- these lines are tried after the others
-    fourth : {k : Checked} → k ≡ tried (roomLines (length ends) (length breaks) (length w - found .first) (found .breaks)) → k ≡ tried lines
+    fourth : {k : Checked} → k ≡ tried (roomLines (length pairs) (length breaks) (length w - found .first) (found .breaks)) → k ≡ tried lines
     fourth e = passed-first (icflAdmission w (length work)) room p (rw (ends-count x l, x .breaks) at e)
 
-    pub breaks-refused : {k : Checked} {m : ℕ} → k ≡ tried (roomLines (length ends) (length breaks) (length w - found .first) (found .breaks))
-        → IsRefused k → m ≡ numberOf k → BreaksDone w work ends breaks (CountedBreaks.Refused m) work₂ ends breaks
+    pub breaks-refused : {k : Checked} {m : ℕ} → k ≡ tried (roomLines (length pairs) (length breaks) (length w - found .first) (found .breaks))
+        → IsRefused k → m ≡ numberOf k → BreaksDone w work pairs breaks (CountedBreaks.Refused m) work₂ pairs breaks
     breaks-refused e h z = record {
       answer = refused lines result (λ (i : ℕ). CountedBreaks.Refused i) (fourth e) h z;
-      ends-are = refused lines (written (separatedIcflEnds w) ends) (λ (i : ℕ). ends) (fourth e) h z;
+      pairs-are = refused lines (written (separatedPairs w) pairs) (λ (i : ℕ). pairs) (fourth e) h z;
       breaks-are = refused lines (written (entriesOf (separatedBreaks w)) breaks) (λ (i : ℕ). breaks) (fourth e) h z;
       worked = cut-worked w work room refl p x y;
     }
 
-    pub breaks-written : {ends′ breaks′ : List ℕ}
-        → tried (roomLines (length ends) (length breaks) (length w - found .first) (found .breaks)) ≡ Passed
-        → ends′ ≡ written (part (found .first) (length w) work₁) ends → breaks′ ≡ written (entriesOf (separatedBreaks w)) breaks
-        → BreaksDone w work ends breaks (CountedBreaks.Counts (length w - found .first) (found .breaks)) work₂ ends′ breaks′
+    pub breaks-written : {pairs′ breaks′ : List ℕ}
+        → tried (roomLines (length pairs) (length breaks) (length w - found .first) (found .breaks)) ≡ Passed
+        → pairs′ ≡ written (separatedPairs w) pairs → breaks′ ≡ written (entriesOf (separatedBreaks w)) breaks
+        → BreaksDone w work pairs breaks (CountedBreaks.Counts (length w - found .first) (found .breaks)) work₂ pairs′ breaks′
     breaks-written r e f =
         let passed : tried lines ≡ Passed = sym (fourth (sym r)) in
         record {
           answer = rw (passed, ends-count x l, x .breaks);
-          ends-are = rw passed (rw (ends-part x l) at e);
+          pairs-are = rw passed e;
           breaks-are = rw passed f;
           worked = cut-worked w work room refl p x y;
         }
 
 -- what it tells that both lines pass
-pub rooms : (ends breaks factors count : ℕ) → tried (roomLines ends breaks factors count) ≡ Passed → (factors ≤ ends) × (5 * count ≤ breaks)
-rooms ends breaks factors count p =
-    let u = unmet (roomLines ends breaks factors count) p in
-    (ltb-false ends factors (u .0), ltb-false breaks (5 * count) (u .1 .0))
+pub rooms : (pairs breaks factors count : ℕ) → tried (roomLines pairs breaks factors count) ≡ Passed → (2 * factors ≤ pairs) × (5 * count ≤ breaks)
+rooms pairs breaks factors count p =
+    let u = unmet (roomLines pairs breaks factors count) p in
+    (ltb-false pairs (2 * factors) (u .0), ltb-false breaks (5 * count) (u .1 .0))

@@ -4,6 +4,7 @@ use mathlib.Core.List.{List, [], _∷_, _++_}
 use Prim.Native.Nat.{ℕ, _*_}
 use lib.ListN.{length}
 use Rattle.words.specs.Separated.{separatedIcflEnds, separatedBreaks}
+use Rattle.words.specs.Pairs.{separatedPairs}
 use Rattle.buffers.specs.Buffers.{cleared, written}
 use Rattle.checks.specs.Lines.{Line, _unless_then_, resultLine}
 use Rattle.checks.specs.declared.Checked.{Checked}
@@ -12,9 +13,10 @@ use Rattle.icfl.specs.Icfl.{icflLines, workAfter}
 use Rattle.icfl.specs.declared.with_breaks.CountedBreaks.{CountedBreaks}
 use Rattle.icfl.specs.declared.with_breaks.CountedBreaks.the-variants.{Counts, Refused}
 
--- the piece cut's lines, and "A short buffer for them is met by refusal 4, once the ends have been found to fit."
-abbrev pub breaksLines : List ℕ → (work ends breaks : ℕ) → List Line
-breaksLines w work ends breaks = icflLines w work ends ++ resultLine breaks (5 * length (separatedBreaks w)) ∷ []
+-- the piece cut's lines, and "A short buffer for them is met by refusal 4, once the ends have been found to fit.": each
+-- with its count
+abbrev pub breaksLines : List ℕ → (work pairs breaks : ℕ) → List Line
+breaksLines w work pairs breaks = icflLines w work pairs ++ resultLine breaks (5 * length (separatedBreaks w)) ∷ []
 
 -- what an answer says: a result, or paper 01's number of the refusal
 abbrev pub breaksChecked : CountedBreaks → Checked
@@ -23,8 +25,8 @@ breaksChecked (Refused number) = Checked.Refused number
 
 -- the call's promise: "A further call, which checks and leaves the work buffer as the piece cut does, gives beside the ends every break the cut considered, and
 -- both counts"; "Result buffers are untouched by a refusal."
-pub record BreaksDone (w work ends breaks : List ℕ) (r : CountedBreaks) (work′ ends′ breaks′ : List ℕ) : Type 0 where
-  pub answer : r ≡ Counts (length (separatedIcflEnds w)) (length (separatedBreaks w)) unless breaksLines w (length work) (length ends) (length breaks) then Refused
-  pub ends-are : ends′ ≡ written (separatedIcflEnds w) ends unless breaksLines w (length work) (length ends) (length breaks) then (λ number. ends)
-  pub breaks-are : breaks′ ≡ written (entriesOf (separatedBreaks w)) breaks unless breaksLines w (length work) (length ends) (length breaks) then (λ number. breaks)
-  pub worked : work′ ≡ cleared (3 * length w) work unless breaksLines w (length work) (length ends) (length breaks) then workAfter (3 * length w) work
+pub record BreaksDone (w work pairs breaks : List ℕ) (r : CountedBreaks) (work′ pairs′ breaks′ : List ℕ) : Type 0 where
+  pub answer : r ≡ Counts (length (separatedIcflEnds w)) (length (separatedBreaks w)) unless breaksLines w (length work) (length pairs) (length breaks) then Refused
+  pub pairs-are : pairs′ ≡ written (separatedPairs w) pairs unless breaksLines w (length work) (length pairs) (length breaks) then (λ number. pairs)
+  pub breaks-are : breaks′ ≡ written (entriesOf (separatedBreaks w)) breaks unless breaksLines w (length work) (length pairs) (length breaks) then (λ number. breaks)
+  pub worked : work′ ≡ cleared (3 * length w) work unless breaksLines w (length work) (length pairs) (length breaks) then workAfter (3 * length w) work

@@ -20,10 +20,11 @@ fn admit(word: &[u8], entries: usize) -> Checked
     checks::check_work(entries, 3 * word.len())
 }
 
-/// The piece cut: writes the ends of the factors from entry 0 on, and answers their number. Each separator is a factor, and each stretch between two is cut by
-/// itself. Refusals 1, 2, 3, 4. After a result and after 4 the first entries of `work`, three for each letter, are zero.
-pub fn icfl(word: &[u8], work: &mut [u16], ends: &mut [u16]) -> Counted
-    ensures { λ r. ⌜ IcflDone (now (word .entry)) (now (work .entry)) (now (ends .entry)) r (now (work .exit)) (now (ends .exit)) ⌝ }
+/// The piece cut: writes a pair for each factor from entry 0 on, its end and the number of anti-Lyndon factors inside, and answers the number of factors. Each
+/// separator is a factor, and each stretch between two is cut by itself. Refusals 1, 2, 3, 4; a pair is two entries. After a result and after 4 the first
+/// entries of `work`, three for each letter, are zero.
+pub fn icfl(word: &[u8], work: &mut [u16], pairs: &mut [u16]) -> Counted
+    ensures { λ r. ⌜ IcflDone (now (word .entry)) (now (work .entry)) (now (pairs .entry)) r (now (work .exit)) (now (pairs .exit)) ⌝ }
 {
     let admitted = admit(word, work.len());
     let Checked::Passed = admitted else {
@@ -33,12 +34,12 @@ pub fn icfl(word: &[u8], work: &mut [u16], ends: &mut [u16]) -> Counted
     let found = breaks::find_ends(word, work);
     let first = found.first;
     let count = n - first;
-    let room = checks::check_result(ends.len(), count);
+    let room = checks::check_result(pairs.len(), 2 * count);
     let Checked::Passed = room else {
         buffers::clear(work, 3 * n);
         return Counted::Refused(room.number());
     };
-    buffers::copy(&work[first..n], ends);
+    pairs::write_pairs(word, &work[first..n], pairs);
     buffers::clear(work, 3 * n);
     Counted::Count(count)
 }

@@ -9,17 +9,17 @@ pub enum CountedBreaks {
     Refused(u8),
 }
 
-/// The piece cut with its reasons: writes the ends as the piece cut does, and the breaks of all stretches from left to right, five entries each: the place where p
-/// ends, the place where that step began, |r|; then the two letters for a kept one, 256 and what the joined factor lacks of |r| for a joined one. Refusals 1, 2, 3, 4 for the
-/// ends, 4 for the breaks; either 4 leaves both result buffers as they were. The work buffer is left as by the piece cut.
+/// The piece cut with its reasons: writes the pairs as the piece cut does, and the breaks of all stretches from left to right, five entries each: the place
+/// where p ends, the place where that step began, |r|; then the two letters for a kept one, 256 and what the joined factor lacks of |r| for a joined one.
+/// Refusals 1, 2, 3, 4 for the pairs, 4 for the breaks; either 4 leaves both result buffers as they were. The work buffer is left as by the piece cut.
 pub fn icfl_with_breaks(
     word: &[u8],
     work: &mut [u16],
-    ends: &mut [u16],
+    pairs: &mut [u16],
     breaks: &mut [u16],
 ) -> CountedBreaks
-    ensures { λ r. ⌜ BreaksDone (now (word .entry)) (now (work .entry)) (now (ends .entry)) (now (breaks .entry)) r
-        (now (work .exit)) (now (ends .exit)) (now (breaks .exit)) ⌝ }
+    ensures { λ r. ⌜ BreaksDone (now (word .entry)) (now (work .entry)) (now (pairs .entry)) (now (breaks .entry)) r
+        (now (work .exit)) (now (pairs .exit)) (now (breaks .exit)) ⌝ }
 {
     let admitted = admit(word, work.len());
     let Checked::Passed = admitted else {
@@ -30,13 +30,13 @@ pub fn icfl_with_breaks(
     let first = found.first;
     let factors = n - first;
     let count = found.breaks;
-    let ends_fit = checks::check_result(ends.len(), factors);
-    let room = ends_fit.then(checks::check_result(breaks.len(), 5 * count));
+    let pairs_fit = checks::check_result(pairs.len(), 2 * factors);
+    let room = pairs_fit.then(checks::check_result(breaks.len(), 5 * count));
     let Checked::Passed = room else {
         buffers::clear(work, 3 * n);
         return CountedBreaks::Refused(room.number());
     };
-    buffers::copy(&work[first..n], ends);
+    pairs::write_pairs(word, &work[first..n], pairs);
     fates::write_breaks(word, work, found, breaks);
     buffers::clear(work, 3 * n);
     CountedBreaks::Counts {

@@ -94,9 +94,15 @@ pub fn list(input: i32, output: i32, errors: i32) {
         return;
     };
     let mut work = [0u16; listing::WORK];
-    let mut ends = [0u16; MOST];
+    let mut pairs = [0u16; listing::PAIRS];
     let mut strict = [0u16; MOST];
     let mut out = [0u8; listing::LISTING];
-    let size = listing::write_listing(&word[..length], &mut work, &mut ends, &mut strict, &mut out);
+    let size = listing::write_listing(
+        &word[..length],
+        &mut work,
+        &mut pairs,
+        &mut strict,
+        &mut out,
+    );
     io::write_all(output, &out[..size]);
 }

@@ -6,6 +6,6 @@ use native.Mathlib.Omega.{arith}
 use lib.ListN.{length, length-append}
 use Rattle.listing.specs.Listing.{Listed}
 
-pub listed-inside : {w work ends strict out work′ ends′ strict′ out′ : List ℕ} {r : ℕ} → Listed w work ends strict out r work′ ends′ strict′ out′
+pub listed-inside : {w work pairs strict out work′ pairs′ strict′ out′ : List ℕ} {r : ℕ} → Listed w work pairs strict out r work′ pairs′ strict′ out′
     → r ≤ length out′
 listed-inside d = omega (arith, d .size, simp length-append at (ap length (d .text)))

@@ -1,7 +1,7 @@
 -- The listing in each of its cases. A refused record is listed by its number (refused-listed). In buffers with room for every record neither cut refuses one
--- that was accepted (icfl-passes, cfl-in-passes), so the ends of both stand at the fronts of two buffers (both-cut); nor does the summary, so the seven
+-- that was accepted (icfl-passes, cfl-in-passes), so what both write stands at the fronts of two buffers (both-cut); nor does the summary, so the seven
 -- lines are the listing (lines-are).
-use mathlib.Core.Path.{_≡_, sym, _∙_}
+use mathlib.Core.Path.{_≡_, refl, sym, _∙_}
 use mathlib.Core.List.{List, []}
 use Prim.Native.Nat.{ℕ, _+_, _*_, _≤_, _<_}
 use native.Mathlib.Nat.{zero-add}
@@ -10,8 +10,10 @@ use borrow.Author.Tests.{le-ltb}
 use lib.ListN.{length, take}
 use Rattle.words.specs.Words.{mostLetters}
 use Rattle.words.specs.Separated.{separatedIcflEnds, separatedCflInEnds}
-use Rattle.words.specs.places.EndsRise.{rises-few, rises-some}
+use Rattle.words.specs.places.EndsRise.{rises-few}
 use Rattle.words.specs.stretches.Factors.{separated-icfl-ends-rise, separated-cfl-in-ends-rise}
+use Rattle.words.specs.Pairs.{separatedPairs}
+use Rattle.words.specs.stretches.RecordPairs.{pairs-ends}
 use Rattle.buffers.specs.Buffers.{cleared, written}
 use Rattle.checks.specs.declared.Checked.{Checked}
 use Rattle.checks.specs.declared.Checked.the-variants.{Passed}
@@ -20,8 +22,9 @@ use Rattle.checks.specs.Lines.{Line, tried, recordLines}
 use Rattle.checks.specs.Answers.{numberOf, Filled}
 use Rattle.checks.proofs.LineLaws.{IsRefused, not-both, refused, unmet, all-pass, filled-front, filled-number}
 use Rattle.checks.proofs.RecordLaws.{accepted}
-use Rattle.checks.proofs.EndsLaws.{EndsOf, ends-pass}
+use Rattle.checks.proofs.PairsLaws.{own-pairs}
 use Rattle.icfl.specs.Icfl.{icflLines, IcflDone}
+use Rattle.icfl.proofs.IcflCases.{pairs-counted, pairs-front}
 use Rattle.cfl.specs.CflIn.{cflInLines, CflInDone}
 use Rattle.summary.specs.Summary.{summaryLines, summaryOf, Summarized}
 use Rattle.summary.specs.declared.Summary.{Summary}
@@ -29,17 +32,17 @@ use Rattle.summary.proofs.SummaryLaws.{bands-length}
 use Rattle.text.specs.Writing.{FitsAt, WroteAt}
 use Rattle.text.proofs.Stores.{wrote-front}
 use Rattle.listing.specs.Listing.{linesOf, sevenLines, refusedLine, listingOf, Listed}
-use Rattle.listing.specs.Writing.{Printable, CutLists, ListingRoom, entriesOf}
+use Rattle.listing.specs.Writing.{Printable, CutLists, ListingRoom, countOf}
 use Rattle.listing.proofs.Bounds.{total-is, refused-most, total-most}
 
 -- ---- a record that is refused
 
-module _ {work ends strict out : List ℕ} (room : ListingRoom work ends strict out) {number : ℕ} (byte : number < 256) where
+module _ {work pairs strict out : List ℕ} (room : ListingRoom work pairs strict out) {number : ℕ} (byte : number < 256) where
   pub refused-fits : FitsAt 0 (refusedLine number) out
   refused-fits = record { inside = omega (arith, room .writing, refused-most number (omega arith)) }
 
   pub refused-listed : {w : List ℕ} {k : Checked} {n : ℕ} {out′ : List ℕ} → k ≡ tried (recordLines w) → IsRefused k → number ≡ numberOf k
-      → WroteAt 0 (refusedLine number) out n out′ → Listed w work ends strict out n work ends strict out′
+      → WroteAt 0 (refusedLine number) out n out′ → Listed w work pairs strict out n work pairs strict out′
   unfolding listingOf
   refused-listed {w} e h z x =
       let is : refusedLine number ≡ listingOf w = refused (recordLines w) _ refusedLine e h z in
@@ -47,24 +50,24 @@ module _ {work ends strict out : List ℕ} (room : ListingRoom work ends strict 
         size = rw (← is) (omega (arith, x .place));
         text = rw (← is) (wrote-front x (omega (arith, refused-fits .inside)));
         worked = refused (recordLines w) (cleared (3 * length w) work) (λ number. work) e h z;
-        pieces = refused (recordLines w) (written (separatedIcflEnds w) ends) (λ number. ends) e h z;
+        pieces = refused (recordLines w) (written (separatedPairs w) pairs) (λ number. pairs) e h z;
         stricts = refused (recordLines w) (written (separatedCflInEnds w) strict) (λ number. strict) e h z;
       }
 
 -- ---- a record that is accepted
 
--- the entries that the answer of a cut tells of
-front : {lines : List Line} {vs buffer buffer′ : List ℕ} {r : Counted} {n : ℕ} → Filled lines (length vs) vs buffer r buffer′
-    → tried lines ≡ Passed → n ≡ entriesOf r → (take n buffer′ ≡ vs) × (n ≤ length buffer′)
-front {r = Counted.Count m} f e z = rw z (filled-front f)
-front {r = Counted.Refused number} f e z = absurd (not-both (filled-number f .0) e)
+-- the answer of a cut that passes its lines tells a number
+counted : {lines : List Line} {k : ℕ} {vs buffer buffer′ : List ℕ} {r : Counted} → Filled lines k vs buffer r buffer′ → tried lines ≡ Passed
+    → r ≡ Counted.Count (countOf r)
+counted {r = Counted.Count m} f e = refl
+counted {r = Counted.Refused number} f e = absurd (not-both (filled-number f .0) e)
 
 module _ (w : List ℕ) (e : tried (recordLines w) ≡ Passed) where
-  icfl-passes : (work entries : ℕ) → 3 * mostLetters ≤ work → mostLetters ≤ entries → tried (icflLines w work entries) ≡ Passed
+  icfl-passes : (work entries : ℕ) → 3 * mostLetters ≤ work → 2 * mostLetters ≤ entries → tried (icflLines w work entries) ≡ Passed
   icfl-passes work entries h k =
       let u = unmet (recordLines w) e in
       let works = le-ltb work (3 * length w) (omega (arith, accepted w [] e .short)) in
-      let stores = le-ltb entries (length (separatedIcflEnds w)) (omega (arith, rises-few (separated-icfl-ends-rise w), accepted w [] e .short)) in
+      let stores = le-ltb entries (2 * length (separatedIcflEnds w)) (omega (arith, rises-few (separated-icfl-ends-rise w), accepted w [] e .short)) in
       all-pass (icflLines w work entries) (u .0, (u .1 .0, (works, (stores, search))))
 
   cfl-in-passes : (entries : ℕ) → mostLetters ≤ entries → tried (cflInLines w entries) ≡ Passed
@@ -73,52 +76,54 @@ module _ (w : List ℕ) (e : tried (recordLines w) ≡ Passed) where
       let stores = le-ltb entries (length (separatedCflInEnds w)) (omega (arith, rises-few (separated-cfl-in-ends-rise w), accepted w [] e .short)) in
       all-pass (cflInLines w entries) (u .0, (u .1 .0, (stores, search)))
 
-  summary-passes : tried (summaryLines w (separatedIcflEnds w)) ≡ Passed
+  summary-passes : tried (summaryLines w (separatedPairs w)) ≡ Passed
   summary-passes =
       let u = unmet (recordLines w) e in
-      let rises = separated-icfl-ends-rise w in
-      let ends : EndsOf (length w) (separatedIcflEnds w) = record { some = rises-some rises (accepted w [] e .nonempty); rises = rises } in
-      all-pass (summaryLines w (separatedIcflEnds w)) (u .0, (u .1 .0, (ends-pass (separatedIcflEnds w) (length w) ends, search)))
+      all-pass (summaryLines w (separatedPairs w)) (u .0, (u .1 .0, (own-pairs w (accepted w [] e .nonempty), search)))
 
-  listing-is : listingOf w ≡ sevenLines (length w) (separatedIcflEnds w) (separatedCflInEnds w) (summaryOf (separatedIcflEnds w))
+  listing-is : listingOf w ≡ sevenLines (length w) (separatedPairs w) (separatedCflInEnds w) (summaryOf (separatedIcflEnds w))
   unfolding listingOf
   listing-is = rw e
 
-  listing-most : length (listingOf w) ≤ 10 * mostLetters + 256
+  listing-most : length (listingOf w) ≤ 15 * mostLetters + 256
   unfolding sevenLines
-  listing-most = rw (listing-is, total-is (linesOf (length w) (separatedIcflEnds w) (separatedCflInEnds w) (summaryOf (separatedIcflEnds w)))) (total-most w (accepted w [] e))
+  listing-most = rw (listing-is, total-is (linesOf (length w) (separatedPairs w) (separatedCflInEnds w) (summaryOf (separatedIcflEnds w)))) (total-most w (accepted w [] e))
 
 -- the lines that a record's cuts and its summary give
-module _ (w ends strict out : List ℕ) (c : CutLists w ends strict out) (s : Summary) (x : Summarized w ends s) where
+module _ (w pairs strict out : List ℕ) (c : CutLists w pairs strict out) (s : Summary) (x : Summarized w pairs s) where
   summary-is : s ≡ summaryOf (separatedIcflEnds w)
-  summary-is = x .answer ∙ rw (c .pieces, summary-passes w (c .accepted))
+  summary-is = x .answer ∙ rw (c .pieces, summary-passes w (c .accepted), pairs-ends w)
 
-  pub printable : Printable (length w) ends strict s out
+  pub printable : Printable (length w) pairs strict s out
   unfolding summaryOf
   printable = record {
     room = rw (summary-is, c .pieces, c .stricts) (omega (arith, c .writing, total-most w (accepted w [] (c .accepted))));
     thirteen = rw summary-is (sym (bands-length (separatedIcflEnds w)));
   }
 
-  pub lines-are : sevenLines (length w) ends strict s ≡ listingOf w
+  pub lines-are : sevenLines (length w) pairs strict s ≡ listingOf w
   lines-are = rw (listing-is w (c .accepted), summary-is, c .pieces, c .stricts)
 
 -- both cuts of a record that was accepted, and the entries that their answers tell of
-pub record BothCut (w work ends strict out : List ℕ) (pieces stricts : ℕ) (work′ ends′ strict′ : List ℕ) : Type 0 where
-  pub pieces-inside : pieces ≤ length ends′
+pub record BothCut (w work pairs strict out : List ℕ) (pieces stricts : ℕ) (work′ pairs′ strict′ : List ℕ) : Type 0 where
+  pub few : pieces ≤ mostLetters
+  pub pieces-inside : 2 * pieces ≤ length pairs′
   pub stricts-inside : stricts ≤ length strict′
-  pub lists : CutLists w (take pieces ends′) (take stricts strict′) out
-  pub listed : (n : ℕ) (out′ : List ℕ) → WroteAt 0 (listingOf w) out n out′ → Listed w work ends strict out n work′ ends′ strict′ out′
+  pub lists : CutLists w (take (2 * pieces) pairs′) (take stricts strict′) out
+  pub listed : (n : ℕ) (out′ : List ℕ) → WroteAt 0 (listingOf w) out n out′ → Listed w work pairs strict out n work′ pairs′ strict′ out′
 
-pub both-cut : {w work ends strict out work′ ends′ strict′ : List ℕ} {r t : Counted} {pieces stricts : ℕ} → ListingRoom work ends strict out
-    → tried (recordLines w) ≡ Passed → IcflDone w work ends r work′ ends′ → pieces ≡ entriesOf r → CflInDone w strict t strict′ → stricts ≡ entriesOf t
-    → BothCut w work ends strict out pieces stricts work′ ends′ strict′
-both-cut {w} {work} {ends} {strict} room e cut p strict-cut s =
-    let passes = icfl-passes w e (length work) (length ends) (room .working) (room .cutting) in
+pub both-cut : {w work pairs strict out work′ pairs′ strict′ : List ℕ} {r t : Counted} {pieces stricts : ℕ} → ListingRoom work pairs strict out
+    → tried (recordLines w) ≡ Passed → IcflDone w work pairs r work′ pairs′ → pieces ≡ countOf r → CflInDone w strict t strict′ → stricts ≡ countOf t
+    → BothCut w work pairs strict out pieces stricts work′ pairs′ strict′
+both-cut {w} {work} {pairs} {strict} {pieces = pieces} {stricts = stricts} room e cut p strict-cut s =
+    let passes = icfl-passes w e (length work) (length pairs) (room .working) (room .cutting) in
     let strict-passes = cfl-in-passes w e (length strict) (room .strictCutting) in
-    let pieces-front = front (cut .filled) passes p in
-    let stricts-front = front strict-cut strict-passes s in
+    let given : IcflDone w work pairs (Counted.Count pieces) _ _ = rw (counted (cut .filled) passes, ← p) at cut in
+    let strict-given : CflInDone w strict (Counted.Count stricts) _ = rw (counted strict-cut strict-passes, ← s) at strict-cut in
+    let pieces-front = pairs-front given in
+    let stricts-front = filled-front strict-given in
     record {
+      few = omega (arith, pairs-counted given, rises-few (separated-icfl-ends-rise w), accepted w [] e .short);
       pieces-inside = pieces-front .1;
       stricts-inside = stricts-front .1;
       lists = record { accepted = e; pieces = pieces-front .0; stricts = stricts-front .0; writing = room .writing };

@@ -60,6 +60,7 @@ pub fn batch_refusal(n: usize, record_ends: &[u32]) -> u8 {
 struct Reply {
     refusal: u8,
     count: usize,
+    used: usize,
     cleared: usize,
 }
 
@@ -70,6 +71,7 @@ fn cut_record(word: &[u8], room: usize, space: usize, list: &mut [u16], used: us
         return Reply {
             refusal: 99,
             count: 0,
+            used: 0,
             cleared: 0,
         };
     }
@@ -83,7 +85,8 @@ fn cut_record(word: &[u8], room: usize, space: usize, list: &mut [u16], used: us
     let is_cut = refusal == 0 || refusal == 4;
     Reply {
         refusal,
-        count: if refusal == 0 { needed.list } else { 0 },
+        count: if refusal == 0 { needed.list / 2 } else { 0 },
+        used: if refusal == 0 { needed.list } else { 0 },
         cleared: if is_cut { needed.work } else { 0 },
     }
 }
@@ -139,7 +142,7 @@ pub fn cut_batch(
     }
     while k < record_ends.len() {
         let reply = cut_place(bytes, record_ends, k, lent, list, used, replies);
-        used = plus(used, reply.count);
+        used = plus(used, reply.used);
         cleared = larger(cleared, reply.cleared);
         k += 1;
     }

@@ -5,7 +5,6 @@ use super::access::entry;
 use super::access::letter;
 use super::access::plus;
 use super::access::store;
-use super::parts::part_start;
 use super::suffixes::strict_by_suffixes;
 
 // Whether the part from a to b is less than the part from b to e at a letter that both have.
@@ -26,6 +25,11 @@ fn loses(word: &[u8], a: usize, b: usize, e: usize) -> bool {
     false
 }
 
+// Where factor k of a list of ends begins.
+fn factor_start(ends: &[u16], k: usize) -> usize {
+    if k == 0 { 0 } else { entry(ends, k - 1) }
+}
+
 // For each factor but the last, 1 in `marks` where it is a piece's last factor, else 0.
 fn mark(word: &[u8], strict: &[u16], count: usize, marks: &mut [u16]) {
     let mut end = word.len();
@@ -33,7 +37,7 @@ fn mark(word: &[u8], strict: &[u16], count: usize, marks: &mut [u16]) {
     while 1 < k {
         k -= 1;
         let b = entry(strict, k - 1);
-        if loses(word, part_start(strict, k - 1), b, end) {
+        if loses(word, factor_start(strict, k - 1), b, end) {
             store(marks, k - 1, 1);
             end = b;
         } else {

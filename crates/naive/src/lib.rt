@@ -17,6 +17,7 @@ mod batch; // a card of records, one after another
 
 pub use access::BREAK_ENTRIES;
 pub use access::ENTRIES;
+pub use access::PAIR_ENTRIES;
 pub use access::RUN_ENTRIES;
 pub use access::entry;
 pub use access::front;

@@ -1,28 +1,32 @@
-//! The parts that a list of ends marks, each number of their summary by a pass of its own.
+//! The parts that a paired list marks, each number of their summary by a pass of its own.
 use super::access::entry;
 use super::access::minus;
 use super::access::plus;
 
 /// Where part k begins.
-pub fn part_start(ends: &[u16], k: usize) -> usize {
-    if k == 0 { 0 } else { entry(ends, k - 1) }
+pub fn part_start(pairs: &[u16], k: usize) -> usize {
+    if k == 0 {
+        0
+    } else {
+        entry(pairs, plus(k - 1, k - 1))
+    }
 }
 
 /// Where part k ends.
-pub fn part_end(ends: &[u16], k: usize) -> usize {
-    entry(ends, k)
+pub fn part_end(pairs: &[u16], k: usize) -> usize {
+    entry(pairs, plus(k, k))
 }
 
-fn part_length(ends: &[u16], k: usize) -> usize {
-    minus(part_end(ends, k), part_start(ends, k))
+fn part_length(pairs: &[u16], k: usize) -> usize {
+    minus(part_end(pairs, k), part_start(pairs, k))
 }
 
 /// The greatest length of a part.
-pub fn longest(ends: &[u16]) -> usize {
+pub fn longest(pairs: &[u16]) -> usize {
     let mut most: usize = 0;
     let mut k: usize = 0;
-    while k < ends.len() {
-        let size = part_length(ends, k);
+    while k < pairs.len() / 2 {
+        let size = part_length(pairs, k);
         if most < size {
             most = size;
         }
@@ -32,12 +36,12 @@ pub fn longest(ends: &[u16]) -> usize {
 }
 
 /// Where the latest part of that size begins: the first one that is met from the right.
-pub fn latest(ends: &[u16], size: usize) -> usize {
-    let mut k = ends.len();
+pub fn latest(pairs: &[u16], size: usize) -> usize {
+    let mut k = pairs.len() / 2;
     while 0 < k {
         k -= 1;
-        if part_length(ends, k) == size {
-            return part_start(ends, k);
+        if part_length(pairs, k) == size {
+            return part_start(pairs, k);
         }
     }
     0
@@ -55,11 +59,11 @@ fn band(length: usize) -> usize {
 }
 
 /// How many parts have a length of that many binary digits.
-pub fn in_band(ends: &[u16], digits: usize) -> usize {
+pub fn in_band(pairs: &[u16], digits: usize) -> usize {
     let mut count: usize = 0;
     let mut k: usize = 0;
-    while k < ends.len() {
-        if band(part_length(ends, k)) == digits {
+    while k < pairs.len() / 2 {
+        if band(part_length(pairs, k)) == digits {
             count = plus(count, 1);
         }
         k += 1;

@@ -1,7 +1,10 @@
 //! Paper 01's table of refusals, with the lines that requests add. Each function gives the number of the first line that is met, 0 for none.
 use super::access::entry;
+use super::access::minus;
+use super::access::plus;
 use super::calls::Call;
 use super::calls::Room;
+use super::parts::part_end;
 use super::stretches::refuses_separator;
 
 // A line of the table: its number where it is met, else what the lines below it say.
@@ -31,30 +34,36 @@ pub fn range_refusal(n: usize, first: usize, end: usize, start: usize, other: us
     record_lines(n, line(end <= first || n < end, 5, line(outside, 6, 0)))
 }
 
-// Whether line 7 is met: the list is empty, its first end is 0, an end is not above the one before it, or the last is not n.
-fn is_no_list(ends: &[u16], n: usize) -> bool {
-    let mut i: usize = 1;
-    while i < ends.len() {
-        if entry(ends, i) <= entry(ends, i - 1) {
+// Whether line 7 is met: the list is empty or has an odd number of entries, an end is not above the one before it, the first not above 0, or the last is not
+// n; or a count is 0 or above the length of its part.
+fn is_no_list(pairs: &[u16], n: usize) -> bool {
+    let mut from: usize = 0;
+    let mut k: usize = 0;
+    while k < pairs.len() / 2 {
+        let end = part_end(pairs, k);
+        let count = entry(pairs, plus(plus(k, k), 1));
+        if end <= from || count == 0 || minus(end, from) < count {
             return true;
         }
-        i += 1;
+        from = end;
+        k += 1;
     }
-    if ends.len() == 0 {
-        return true;
-    }
-    entry(ends, 0) == 0 || entry(ends, ends.len() - 1) != n
+    pairs.len() == 0 || pairs.len() % 2 == 1 || from != n
 }
 
 /// The summary.
-pub fn summary_refusal(n: usize, ends: &[u16]) -> u8 {
-    record_lines(n, line(is_no_list(ends, n), 7, 0))
+pub fn summary_refusal(n: usize, pairs: &[u16]) -> u8 {
+    record_lines(n, line(is_no_list(pairs, n), 7, 0))
 }
 
 /// The reader.
-pub fn part_refusal(n: usize, ends: &[u16], number: usize) -> u8 {
+pub fn part_refusal(n: usize, pairs: &[u16], number: usize) -> u8 {
     record_lines(
         n,
-        line(is_no_list(ends, n), 7, line(ends.len() <= number, 8, 0)),
+        line(
+            is_no_list(pairs, n),
+            7,
+            line(pairs.len() / 2 <= number, 8, 0),
+        ),
     )
 }

@@ -1,7 +1,9 @@
 //! Records with marks. A byte 255 is no level but a mark: a piece and a strict piece of its own, with 1 in the start table, and in no repetition. A
 //! stretch is what stands between two neighbouring marks, or between a mark and an edge of the record. Each one that is not empty is cut as a record by
 //! itself, and what is found is then put in the record's places.
+use super::access::ENTRIES;
 use super::access::entry;
+use super::access::front;
 use super::access::plus;
 use super::access::store;
 use super::calls::Call;
@@ -153,6 +155,47 @@ fn write_list(call: Call, entries: Entries, word: &[u8], defined: bool, list: &m
     count
 }
 
+// How many of the strict ends lie after one place, and not after another.
+fn strict_inside(stricts: &[u16], from: usize, end: usize) -> usize {
+    let mut inside: usize = 0;
+    let mut i: usize = 0;
+    while i < stricts.len() {
+        let strict = entry(stricts, i);
+        if from < strict && strict <= end {
+            inside = plus(inside, 1);
+        }
+        i += 1;
+    }
+    inside
+}
+
+// Puts beside each of so many ends how many of the strict ones lie in its piece, from the last to the first. Answers how many entries there are.
+fn pair_up(list: &mut [u16], count: usize, stricts: &[u16]) -> usize {
+    let mut i = count;
+    while 0 < i {
+        i -= 1;
+        let end = entry(list, i);
+        let from = if i == 0 { 0 } else { entry(list, i - 1) };
+        store(list, plus(i, i), end);
+        store(list, plus(plus(i, i), 1), strict_inside(stricts, from, end));
+    }
+    plus(count, count)
+}
+
+// The same of a record, where the call answers pairs; of any other nothing.
+fn pair_record(call: Call, word: &[u8], defined: bool, list: &mut [u16], count: usize) -> usize {
+    let paired = match call {
+        Call::Pieces | Call::Breaks => true,
+        _ => false,
+    };
+    if !paired {
+        return count;
+    }
+    let mut stricts = [0u16; ENTRIES];
+    let many = write_list(Call::Strict, Entries::Ends, word, defined, &mut stricts);
+    pair_up(list, count, front(&stricts, many))
+}
+
 // Writes what a call answers, each stretch by the definitions (`defined`) or in the faster ways; nothing for a record that it refuses for a mark.
 fn write_answer(
     call: Call,
@@ -164,7 +207,8 @@ fn write_answer(
     if refuses_separator(call, word) {
         return needed(call, word.len(), 0, 0);
     }
-    let count = write_list(call, entries_of(call), word, defined, list);
+    let alone = write_list(call, entries_of(call), word, defined, list);
+    let count = pair_record(call, word, defined, list, alone);
     let beside = write_list(call, Entries::Breaks, word, defined, breaks);
     needed(call, word.len(), count, beside)
 }

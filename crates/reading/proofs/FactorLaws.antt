@@ -8,7 +8,9 @@ use Rattle.words.specs.places.EndsRise.{rises-inside, rises-at}
 use Rattle.checks.specs.declared.Checked.the-variants.{Passed}
 use Rattle.checks.specs.Lines.{tried}
 use Rattle.checks.proofs.LineLaws.{unmet}
-use Rattle.checks.proofs.EndsLaws.{ends-accepted}
+use Rattle.words.specs.Pairs.{endsOf}
+use Rattle.words.specs.places.PairedLists.{paired-rise}
+use Rattle.checks.proofs.PairsLaws.{pairs-accepted}
 use Rattle.reading.specs.Factor.{factorLines, factorFrom}
 
 pub record Placed (w es : List ℕ) (k : ℕ) : Type 0 where
@@ -16,9 +18,9 @@ pub record Placed (w es : List ℕ) (k : ℕ) : Type 0 where
   pub ordered : factorFrom es k < getD es k 0
   pub inside : getD es k 0 ≤ length w
 
-pub placed : (w es : List ℕ) (k : ℕ) → tried (factorLines w es k) ≡ Passed → Placed w es k
-placed w es k e =
-    let u = unmet (factorLines w es k) e in
-    let r = ends-accepted es (length w) (u .1 .1 .0) .rises in
-    let l = leb-false (length es) k (u .1 .1 .1 .0) in
+pub placed : (w ps : List ℕ) (k : ℕ) → tried (factorLines w ps k) ≡ Passed → Placed w (endsOf ps) k
+placed w ps k e =
+    let u = unmet (factorLines w ps k) e in
+    let r = paired-rise (pairs-accepted ps (length w) (u .1 .1 .0) .paired) in
+    let l = leb-false (length (endsOf ps)) k (u .1 .1 .1 .0) in
     record { listed = l; ordered = rises-at r k l .0; inside = rises-inside r k }

@@ -7,6 +7,7 @@ use native.Mathlib.Decide.{ℕ-discrete}
 use native.Mathlib.Omega.{arith}
 use lib.ListN.{length}
 use Rattle.words.specs.Words.{mostLetters}
+use Rattle.words.specs.Pairs.{endsOf}
 use Rattle.words.specs.places.EndsRise.{Rises, done, more, rises-few}
 use Rattle.checks.specs.declared.Checked.{Checked}
 use Rattle.checks.specs.declared.Checked.the-variants.{Passed, Refused}
@@ -53,10 +54,13 @@ pub bands-sum : (n : ℕ) (es : List ℕ) → Rises n 0 es → n ≤ mostLetters
 bands-sum n es r l = rw (bands-are-counts es) (bands-sum-from r l)
 
 -- beside a refusal all are 0
-pub summary-bands-sum : {w es : List ℕ} {r : Summary} → Summarized w es r → sum _+_ 0 (r .bands) ≡ r .count
+pub summary-bands-sum : {w ps : List ℕ} {r : Summary} → Summarized w ps r → sum _+_ 0 (r .bands) ≡ r .count
 unfolding sum summaryOf
-summary-bands-sum {w} {es} s = rw (s .answer) (go (tried (summaryLines w es)) (ends-admitted w es))
+summary-bands-sum {w} {ps} s = rw (s .answer) (go (tried (summaryLines w ps)) (ends-admitted w ps))
   where
+    es : List ℕ
+    es = endsOf ps
+
     go : (k : Checked) → (k ≡ Passed → EndsAccepted w es)
         → sum _+_ 0 (decided k (summaryOf es) emptySummary .bands) ≡ decided k (summaryOf es) emptySummary .count
     go Passed g = bands-sum (length w) es (g refl .rises) (g refl .letters)

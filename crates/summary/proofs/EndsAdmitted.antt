@@ -10,7 +10,9 @@ use Rattle.checks.specs.declared.Checked.the-variants.{Passed}
 use Rattle.checks.specs.Lines.{tried}
 use Rattle.checks.proofs.LineLaws.{unmet}
 use Rattle.checks.proofs.RecordLaws.{accepted}
-use Rattle.checks.proofs.EndsLaws.{ends-accepted}
+use Rattle.words.specs.Pairs.{endsOf}
+use Rattle.words.specs.places.PairedLists.{paired-rise, paired-number}
+use Rattle.checks.proofs.PairsLaws.{pairs-accepted}
 use Rattle.summary.specs.Summary.{summaryLines, Summable}
 
 -- a record that is not too long, and ends, at least one, that rise to its length
@@ -19,11 +21,11 @@ pub record EndsAccepted (w es : List ℕ) : Type 0 where
   pub some : 0 < length es
   pub rises : Rises (length w) 0 es
 
-pub ends-admitted : (w es : List ℕ) → tried (summaryLines w es) ≡ Passed → EndsAccepted w es
-ends-admitted w es e =
-    let u = unmet (summaryLines w es) e in
-    let v = ends-accepted es (length w) (u .1 .1 .0) in
-    record { letters = accepted w _ e .short; some = v .some; rises = v .rises }
+pub ends-admitted : (w ps : List ℕ) → tried (summaryLines w ps) ≡ Passed → EndsAccepted w (endsOf ps)
+ends-admitted w ps e =
+    let u = unmet (summaryLines w ps) e in
+    let v = pairs-accepted ps (length w) (u .1 .1 .0) in
+    record { letters = accepted w _ e .short; some = omega (arith, v .some, paired-number (v .paired)); rises = paired-rise (v .paired) }
 
 pub summable : {w es : List ℕ} → EndsAccepted w es → Summable es
 summable v = record {

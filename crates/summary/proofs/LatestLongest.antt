@@ -9,6 +9,7 @@ use native.Mathlib.Decide.{ℕ-discrete}
 use native.Mathlib.Omega.{arith}
 use lib.ListN.{length}
 use Rattle.words.specs.orders.Decisions.{neither-less}
+use Rattle.words.specs.Pairs.{endsOf}
 use Rattle.words.specs.Statements.{Adjacent, here, there, Part}
 use Rattle.words.specs.places.Ends.{adjacent-cases, adjacent-one}
 use Rattle.words.specs.places.EndsRise.{Rises, done, more}
@@ -97,10 +98,13 @@ latest-longest {es = es} r l =
     let x = start-latest (greatest (lengthsFrom 0 es)) r (count-greatest _ (lengthsFrom 0 es) refl (greatest-some r l)) in
     record { begins = x .begins; most = λ i j p. greatest-most es p; latest = x .latest }
 
-pub summary-latest : {w es : List ℕ} {r : Summary} → Summarized w es r → r .refusal ≡ 0 → LatestLongest es (r .longest) (r .from)
+pub summary-latest : {w ps : List ℕ} {r : Summary} → Summarized w ps r → r .refusal ≡ 0 → LatestLongest (endsOf ps) (r .longest) (r .from)
 unfolding summaryOf
-summary-latest {w} {es} s z = rw (s .answer) (go (tried (summaryLines w es)) (zero-passes (summaryLines w es) refl) (ends-admitted w es) (rw (s .answer) at z))
+summary-latest {w} {ps} s z = rw (s .answer) (go (tried (summaryLines w ps)) (zero-passes (summaryLines w ps) refl) (ends-admitted w ps) (rw (s .answer) at z))
   where
+    es : List ℕ
+    es = endsOf ps
+
     go : (k : Checked) → (numberOf k ≡ 0 → k ≡ Passed) → (k ≡ Passed → EndsAccepted w es) → decided k (summaryOf es) emptySummary .refusal ≡ 0
         → LatestLongest es (decided k (summaryOf es) emptySummary .longest) (decided k (summaryOf es) emptySummary .from)
     go Passed p g z = latest-longest (g refl .rises) (g refl .some)

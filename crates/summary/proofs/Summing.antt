@@ -141,7 +141,7 @@ module _ {es bands : List ℕ} {longest from last i : ℕ} (g : SummedUpTo es lo
     next-bands : Banded es bands last (getD es i 0 ∷ drop (suc i) es)
     next-bands = rw (drop-cons es i 0 l) at (g .bands-are)
 
-    pub summed-next : {m f digits : ℕ} → last < getD es i 0 → Chosen (getD es i 0 - last) longest from last f
+    summed-next : {m f digits : ℕ} → last < getD es i 0 → Chosen (getD es i 0 - last) longest from last f
         → Chosen (getD es i 0 - last) longest longest (getD es i 0 - last) m → digits ≡ bitLength (getD es i 0 - last) → 0 < digits
         → SummedUpTo es m f (countedAt (digits - 1) bands) (getD es i 0) (i + 1)
     summed-next {digits = digits} above x y b p = record {
@@ -150,6 +150,12 @@ module _ {es bands : List ℕ} {longest from last i : ℕ} (g : SummedUpTo es lo
       longest-is = rw (add-one i) (longest-next next-longest (omega arith) x y);
       bands-are = rw (add-one i) (banded-next digits next-bands b p);
     }
+
+    -- the same, with the end as it stands in a paired list
+    pub summed-on : {end m f digits : ℕ} → end ≡ getD es i 0 → last < end → Chosen (end - last) longest from last f
+        → Chosen (end - last) longest longest (end - last) m → digits ≡ bitLength (end - last) → 0 < digits
+        → SummedUpTo es m f (countedAt (digits - 1) bands) end (i + 1)
+    summed-on e above x y b p = rw e (summed-next (rw e at above) (rw e at x) (rw e at y) (rw e at b) p)
 
   pub summed-end : length es ≤ i → record { refusal = 0; count = i; longest = longest; from = from; bands = bands } ≡ summaryOf es
   unfolding summaryOf lengthsFrom greatest

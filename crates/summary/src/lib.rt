@@ -1,7 +1,8 @@
-//! The summary of the parts that a list of ends marks in a record. The list may be any that line 7 of the refusals accepts; it need not
+//! The summary of the parts that a paired list marks in a record. The list may be any that line 7 of the refusals accepts; it need not
 //! be a factorization.
 use checks::Checked;
 ghost use mathlib.Core.Path.{_≡_};
+ghost use Rattle.words.specs.Pairs.{endsOf};
 ghost use Rattle.checks.specs.Lines.{tried};
 ghost use Rattle.summary.specs.Summary.{summaryLines, bitLength, emptySummary, summaryOf, Summarized, Summable};
 
@@ -20,11 +21,11 @@ pub struct Summary {
     pub bands: [u16; 13],
 }
 
-/// The record and the list of ends: what every call on a list tries first.
-pub fn admit_ends(word: &[u8], ends: &[u16]) -> Checked
-    ensures { λ r. ⌜ r ≡ tried (summaryLines (now (word .entry)) (now (ends .entry))) ⌝ }
+/// The record and the paired list: what every call on a list tries first.
+pub fn admit_pairs(word: &[u8], pairs: &[u16]) -> Checked
+    ensures { λ r. ⌜ r ≡ tried (summaryLines (now (word .entry)) (now (pairs .entry))) ⌝ }
 {
-    checks::check_record(word).then(checks::check_ends(ends, word.len()))
+    checks::check_record(word).then(checks::check_pairs(pairs, word.len()))
 }
 
 // The number of binary digits of n.
@@ -50,18 +51,19 @@ impl Summary {
     }
 }
 
-// The summary of the parts that a list of ends marks. A part takes the place of the longest before it unless it is shorter.
-fn sum_up(ends: &[u16]) -> Summary
-    requires { ⌜ Summable (now ends) ⌝ }
-    ensures { λ r. ⌜ r ≡ summaryOf (now (ends .entry)) ⌝ }
+// The summary of the parts that a paired list marks. A part takes the place of the longest before it unless it is shorter.
+fn sum_up(pairs: &[u16]) -> Summary
+    requires { ⌜ Summable (endsOf (now pairs)) ⌝ }
+    ensures { λ r. ⌜ r ≡ summaryOf (endsOf (now (pairs .entry))) ⌝ }
 {
+    let count = pairs.len() / 2;
     let mut bands = [0u16; 13];
     let mut longest: u16 = 0;
     let mut from: u16 = 0;
     let mut last: u16 = 0;
     let mut i: usize = 0;
-    while i < ends.len() {
-        let end = ends[i];
+    while i < count {
+        let end = pairs[2 * i];
         let size = end - last;
         from = if size < longest { from } else { last };
         longest = if size < longest { longest } else { size };
@@ -79,13 +81,13 @@ fn sum_up(ends: &[u16]) -> Summary
     }
 }
 
-/// The summary of a record and a list of ends, or refusal 1, 2 or 7.
-pub fn summarize(word: &[u8], ends: &[u16]) -> Summary
-    ensures { λ r. ⌜ Summarized (now (word .entry)) (now (ends .entry)) r ⌝ }
+/// The summary of a record and a paired list, or refusal 1, 2 or 7.
+pub fn summarize(word: &[u8], pairs: &[u16]) -> Summary
+    ensures { λ r. ⌜ Summarized (now (word .entry)) (now (pairs .entry)) r ⌝ }
 {
-    let admitted = admit_ends(word, ends);
+    let admitted = admit_pairs(word, pairs);
     let Checked::Passed = admitted else {
         return Summary::empty(admitted.number());
     };
-    sum_up(ends)
+    sum_up(pairs)
 }

@@ -1,5 +1,5 @@
 -- The loops that write text, over plain lists: digits counted (Counting) and written from the last one on (Spelling); bytes one after the other
--- (copy-step); numbers with a comma before each (comma-at) after a first one (comma-first); and lines (line-length, line-wrote).
+-- (copy-step); numbers with a byte before each (each-at) after a first one (list-first); and lines (line-length, line-wrote).
 use mathlib.Core.Path.{_≡_, refl, ap, sym, _∙_}
 use mathlib.Core.List.{List, [], _∷_, _++_, append-nil}
 use Prim.Native.Nat.{ℕ, suc, _+_, _-_, _/_, _%_, _≤_, _<_}
@@ -7,7 +7,7 @@ use native.Mathlib.Numerals.{add-one}
 use native.Mathlib.Omega.{arith}
 use lib.ListN.{length, drop, getD, set, length-set, length-append, drop-of-length-le}
 use lib.Seq.{sets, drop-cons}
-use Rattle.text.specs.Text.{decimal, commaEach, commaList, line}
+use Rattle.text.specs.Text.{decimal, eachAfter, listBy, commaList, line}
 use Rattle.text.specs.Writing.{WroteAt}
 use Rattle.text.proofs.Stores.{sets-last, wrote-none, wrote-one, wrote-then, Left, left-byte}
 use Rattle.text.proofs.Decimals.{decimal-small, length-large, digits, length-digits, decimal-digits}
@@ -62,39 +62,40 @@ copy-step bytes out₀ out at i l g =
     let z : at + (i + 1) ≡ at + i + 1 = omega arith in
     rw (z, add-one i) (left-byte (rw (drop-cons bytes i 0 l) at g))
 
--- ---- lists: none, or a first number and then the others with a comma before each
+-- ---- lists: none, or a first number and then the others with s and t before them in turn
 
-pub list-none : (numbers out : List ℕ) (at : ℕ) → length numbers ≡ 0 → WroteAt at (commaList numbers) out at out
-unfolding commaList
-list-none [] out at l = wrote-none at out
-list-none (n ∷ ns) out at l = absurd (omega arith)
+pub list-none : (s t numbers out : List ℕ) (at : ℕ) → length numbers ≡ 0 → WroteAt at (listBy s t numbers) out at out
+unfolding listBy
+list-none s t [] out at l = wrote-none at out
+list-none s t (n ∷ ns) out at l = absurd (omega arith)
 
-pub comma-first : (numbers : List ℕ) → 0 < length numbers → commaList numbers ≡ decimal (getD numbers 0 0) ++ commaEach (drop 1 numbers)
-unfolding commaList
-comma-first [] l = absurd (omega arith)
-comma-first (n ∷ ns) l = refl
+pub list-first : (s t numbers : List ℕ) → 0 < length numbers → listBy s t numbers ≡ decimal (getD numbers 0 0) ++ eachAfter s t (drop 1 numbers)
+unfolding listBy
+list-first s t [] l = absurd (omega arith)
+list-first s t (n ∷ ns) l = refl
 
-pub first-length : (numbers : List ℕ) → 0 < length numbers
-    → length (commaList numbers) ≡ length (decimal (getD numbers 0 0)) + length (commaEach (drop 1 numbers))
-first-length numbers l = rw (comma-first numbers l, length-append)
+pub first-length : (s t numbers : List ℕ) → 0 < length numbers
+    → length (listBy s t numbers) ≡ length (decimal (getD numbers 0 0)) + length (eachAfter s t (drop 1 numbers))
+first-length s t numbers l = rw (list-first s t numbers l, length-append)
 
-module _ (numbers : List ℕ) (i : ℕ) where
-  pub comma-at : i < length numbers → commaEach (drop i numbers) ≡ 44 ∷ (decimal (getD numbers i 0) ++ commaEach (drop (i + 1) numbers))
-  unfolding commaEach
-  comma-at l = rw (add-one i, drop-cons numbers i 0 l)
+module _ (s t : ℕ) (numbers : List ℕ) (i : ℕ) where
+  pub each-at : i < length numbers
+      → eachAfter (s ∷ []) (t ∷ []) (drop i numbers) ≡ s ∷ (decimal (getD numbers i 0) ++ eachAfter (t ∷ []) (s ∷ []) (drop (i + 1) numbers))
+  unfolding eachAfter
+  each-at l = rw (add-one i, drop-cons numbers i 0 l)
 
-  pub comma-length : i < length numbers
-      → length (commaEach (drop i numbers)) ≡ suc (length (decimal (getD numbers i 0)) + length (commaEach (drop (i + 1) numbers)))
-  comma-length l = rw (comma-at l, length-append)
+  pub each-length : i < length numbers
+      → length (eachAfter (s ∷ []) (t ∷ []) (drop i numbers)) ≡ suc (length (decimal (getD numbers i 0)) + length (eachAfter (t ∷ []) (s ∷ []) (drop (i + 1) numbers)))
+  each-length l = rw (each-at l, length-append)
 
-  pub comma-end : length numbers ≤ i → commaEach (drop i numbers) ≡ []
-  unfolding commaEach
-  comma-end l = rw (drop-of-length-le numbers {i = i} l)
+  pub each-end : length numbers ≤ i → eachAfter (s ∷ []) (t ∷ []) (drop i numbers) ≡ []
+  unfolding eachAfter
+  each-end l = rw (drop-of-length-le numbers {i = i} l)
 
 -- ---- lines
 
 pub list-one : (n : ℕ) → commaList (n ∷ []) ≡ decimal n
-unfolding commaList
+unfolding listBy eachAfter
 list-one n = append-nil (decimal n)
 
 pub line-length : (key value : List ℕ) → length (line key value) ≡ length key + length value + 2

@@ -21,17 +21,24 @@ unfoldable pub decimal : ℕ → List ℕ
 unfolding decimalWithin
 decimal n = decimalWithin (suc n) n
 
--- numbers in decimal, with a comma before each
-unfoldable pub commaEach : List ℕ → List ℕ
+-- numbers in decimal, before them s and t in turn
+unfoldable pub eachAfter : List ℕ → List ℕ → List ℕ → List ℕ
 unfolding decimal
-commaEach [] = []
-commaEach (n ∷ ns) = ascii "," ++ decimal n ++ commaEach ns
+eachAfter s t [] = []
+eachAfter s t (n ∷ ns) = s ++ decimal n ++ eachAfter t s ns
 
--- numbers in decimal, with commas between them
-unfoldable pub commaList : List ℕ → List ℕ
-unfolding decimal commaEach
-commaList [] = []
-commaList (n ∷ ns) = decimal n ++ commaEach ns
+-- numbers in decimal, between them s and t in turn
+unfoldable pub listBy : List ℕ → List ℕ → List ℕ → List ℕ
+unfolding decimal eachAfter
+listBy s t [] = []
+listBy s t (n ∷ ns) = decimal n ++ eachAfter s t ns
+
+-- numbers with commas between them; pairs with commas between them, and a colon in each: `13:2,17:2`
+abbrev pub commaList : List ℕ → List ℕ
+commaList ns = listBy (ascii ",") (ascii ",") ns
+
+abbrev pub pairList : List ℕ → List ℕ
+pairList ps = listBy (ascii ":") (ascii ",") ps
 
 -- a line `key=value`, "ended by byte 10"
 unfoldable pub line : List ℕ → List ℕ → List ℕ

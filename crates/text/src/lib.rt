@@ -1,7 +1,8 @@
 //! Text in a lent buffer. Each function writes from entry `at` of `out` on and answers the entry after what it wrote.
 ghost use mathlib.Core.Path.{_≡_};
 ghost use lib.ListN.{length};
-ghost use Rattle.text.specs.Text.{decimal, commaList, line};
+ghost use mathlib.Core.List.{[], _∷_};
+ghost use Rattle.text.specs.Text.{decimal, listBy, commaList, pairList, line};
 ghost use Rattle.text.specs.Writing.{FitsAt, WroteAt};
 
 // The bytes as they are.
@@ -46,22 +47,46 @@ fn write_decimal(number: u16, out: &mut [u8], at: usize) -> usize
     at + count
 }
 
-// The numbers in decimal, with commas between them.
-fn write_list(numbers: &[u16], out: &mut [u8], at: usize) -> usize
-    requires { ⌜ FitsAt at (commaList (now numbers)) (now out) ⌝ }
-    ensures { λ r. ⌜ WroteAt at (commaList (now (numbers .entry))) (now (out .entry)) r (now (out .exit)) ⌝ }
+// The numbers in decimal, with one byte and another between them in turn.
+fn write_list(numbers: &[u16], first: u8, second: u8, out: &mut [u8], at: usize) -> usize
+    requires { ⌜ FitsAt at (listBy (first ∷ []) (second ∷ []) (now numbers)) (now out) ⌝ }
+    ensures { λ r. ⌜ WroteAt at (listBy (first ∷ []) (second ∷ []) (now (numbers .entry))) (now (out .entry)) r (now (out .exit)) ⌝ }
 {
     if numbers.len() == 0 {
         return at;
     }
     let mut place = write_decimal(numbers[0], out, at);
+    let mut before = first;
+    let mut next = second;
     let mut i: usize = 1;
     while i < numbers.len() {
-        out[place] = b',';
+        out[place] = before;
         place = write_decimal(numbers[i], out, place + 1);
+        let used = before;
+        before = next;
+        next = used;
         i += 1;
     }
     place
+}
+
+// The line `key=` with such a list, ended by byte 10.
+fn write_line(
+    key: &[u8],
+    numbers: &[u16],
+    first: u8,
+    second: u8,
+    out: &mut [u8],
+    at: usize,
+) -> usize
+    requires { ⌜ FitsAt at (line (now key) (listBy (first ∷ []) (second ∷ []) (now numbers))) (now out) ⌝ }
+    ensures { λ r. ⌜ WroteAt at (line (now (key .entry)) (listBy (first ∷ []) (second ∷ []) (now (numbers .entry)))) (now (out .entry)) r (now (out .exit)) ⌝ }
+{
+    let equals = write_bytes(key, out, at);
+    out[equals] = b'=';
+    let end = write_list(numbers, first, second, out, equals + 1);
+    out[end] = b'\n';
+    end + 1
 }
 
 /// The line `key=` with the numbers in decimal, commas between them, ended by byte 10. It must fit into `out` from `at` on.
@@ -69,11 +94,15 @@ pub fn write_list_line(key: &[u8], numbers: &[u16], out: &mut [u8], at: usize) -
     requires { ⌜ FitsAt at (line (now key) (commaList (now numbers))) (now out) ⌝ }
     ensures { λ r. ⌜ WroteAt at (line (now (key .entry)) (commaList (now (numbers .entry)))) (now (out .entry)) r (now (out .exit)) ⌝ }
 {
-    let equals = write_bytes(key, out, at);
-    out[equals] = b'=';
-    let end = write_list(numbers, out, equals + 1);
-    out[end] = b'\n';
-    end + 1
+    write_line(key, numbers, b',', b',', out, at)
+}
+
+/// The same of pairs, a colon in each and commas between them.
+pub fn write_pairs_line(key: &[u8], pairs: &[u16], out: &mut [u8], at: usize) -> usize
+    requires { ⌜ FitsAt at (line (now key) (pairList (now pairs))) (now out) ⌝ }
+    ensures { λ r. ⌜ WroteAt at (line (now (key .entry)) (pairList (now (pairs .entry)))) (now (out .entry)) r (now (out .exit)) ⌝ }
+{
+    write_line(key, pairs, b':', b',', out, at)
 }
 
 /// The line `key=` with the number in decimal, ended by byte 10. It must fit into `out` from `at` on.

@@ -69,8 +69,8 @@ fn call(
 // Whether the call does as the second implementation says: all its answers, and every entry of the buffers.
 fn agrees(bytes: &[u8], record_ends: &[u32], lent: Room) -> bool {
     let mut work = [0u16; WORK];
-    let mut ends = [0u16; BATCH_BYTES];
-    let mut want = [0u16; BATCH_BYTES];
+    let mut ends = [0u16; 2 * BATCH_BYTES];
+    let mut want = [0u16; 2 * BATCH_BYTES];
     let mut replies = [0u16; 2 * RECORDS];
     fill(&mut work, SALT);
     fill(&mut ends, SALT);
@@ -98,12 +98,12 @@ fn random_room(n: usize, record_ends: &[u32], run: &mut Run) -> usize {
     if room < WORK { room } else { WORK }
 }
 
-// Result entries: as many as bytes, or fewer.
+// Result entries: two for each byte, or fewer.
 fn random_space(n: usize, run: &mut Run) -> usize {
     match draw(run, 4) {
-        0 => n,
-        1 => draw(run, plus(n, 1)),
-        _ => draw(run, plus(n / 3, 1)),
+        0 => plus(n, n),
+        1 => draw(run, plus(plus(n, n), 1)),
+        _ => draw(run, plus(n / 3 * 2, 1)),
     }
 }
 

@@ -78,19 +78,23 @@ fn comparison_is(word: &[u8], first: usize, end: usize, start: usize, other: usi
 }
 
 /// In a range at random, from case 8 on in one of whole parts, with two starts at random.
-pub fn agrees(word: &[u8], ends: &[u16], code: usize, run: &mut Run) -> bool {
-    let many = if code < 8 { word.len() } else { ends.len() };
+pub fn agrees(word: &[u8], pairs: &[u16], code: usize, run: &mut Run) -> bool {
+    let many = if code < 8 {
+        word.len()
+    } else {
+        pairs.len() / 2
+    };
     let from = draw(run, many);
     let last = plus(from, draw(run, minus(many, from)));
     let first = if code < 8 {
         from
     } else {
-        naive::part_start(ends, from)
+        naive::part_start(pairs, from)
     };
     let end = if code < 8 {
         plus(last, 1)
     } else {
-        naive::part_end(ends, last)
+        naive::part_end(pairs, last)
     };
     let start = plus(first, draw(run, minus(end, first)));
     let other = plus(first, draw(run, minus(end, first)));

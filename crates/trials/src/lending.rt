@@ -43,6 +43,25 @@ fn test(word: &[u8], work: &mut [u16], list: &mut [u16]) -> Counted {
     }
 }
 
+// The piece cut, its answer counting entries: two for each piece.
+fn pieces(word: &[u8], work: &mut [u16], list: &mut [u16]) -> Counted {
+    match icfl::icfl(word, work, list) {
+        Counted::Refused(number) => Counted::Refused(number),
+        Counted::Count(count) => Counted::Count(plus(count, count)),
+    }
+}
+
+// The same with its breaks.
+fn reasons(word: &[u8], work: &mut [u16], list: &mut [u16], beside: &mut [u16]) -> CountedBreaks {
+    match icfl::icfl_with_breaks(word, work, list, beside) {
+        CountedBreaks::Refused(number) => CountedBreaks::Refused(number),
+        CountedBreaks::Counts { factors, breaks } => CountedBreaks::Counts {
+            factors: plus(factors, factors),
+            breaks,
+        },
+    }
+}
+
 // The repetitions, their answer counting entries: three for each.
 fn repetitions(word: &[u8], list: &mut [u16]) -> Counted {
     match runs::runs(word, list) {
@@ -69,8 +88,8 @@ fn call_with(
 ) -> CountedBreaks {
     match call {
         Call::Test => unbroken(test(word, work, list)),
-        Call::Pieces => unbroken(icfl::icfl(word, work, list)),
-        Call::Breaks => icfl::icfl_with_breaks(word, work, list, breaks),
+        Call::Pieces => unbroken(pieces(word, work, list)),
+        Call::Breaks => reasons(word, work, list, breaks),
         Call::Strict => unbroken(cfl::cfl_in(word, list)),
         Call::Repetitions => unbroken(repetitions(word, list)),
         _ => unbroken(table::lyndon_table(word, list)),
@@ -156,7 +175,7 @@ fn is_defined(call: Call, word: &[u8], want: &[u16], want_breaks: &[u16]) -> boo
     if most < word.len() {
         return true;
     }
-    let mut list = [0u16; SHORT];
+    let mut list = [0u16; 2 * SHORT];
     let mut breaks = [0u16; 5 * SHORT];
     let found = naive::answer_by_definition(call, word, &mut list, &mut breaks);
     is_list(&list, found.list, want) & is_list(&breaks, found.breaks, want_breaks)

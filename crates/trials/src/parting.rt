@@ -1,5 +1,5 @@
 //! The reader and the summary.
-use naive::ENTRIES;
+use naive::PAIR_ENTRIES;
 use naive::entry;
 use naive::front;
 use naive::minus;
@@ -9,13 +9,13 @@ use samples::write_list;
 use summary::Summary;
 
 /// Whether the reader gives the part, or the refusal beside an empty one.
-pub fn part_agrees(word: &[u8], ends: &[u16], number: usize) -> bool {
+pub fn part_agrees(word: &[u8], pairs: &[u16], number: usize) -> bool {
     let mut told: u8 = 200;
-    let part = reading::factor_at(word, ends, number, &mut told);
-    let refused = naive::part_refusal(word.len(), ends, number);
-    let from = naive::part_start(ends, number);
+    let part = reading::factor_at(word, pairs, number, &mut told);
+    let refused = naive::part_refusal(word.len(), pairs, number);
+    let from = naive::part_start(pairs, number);
     let end = if refused == 0 {
-        naive::part_end(ends, number)
+        naive::part_end(pairs, number)
     } else {
         from
     };
@@ -24,10 +24,10 @@ pub fn part_agrees(word: &[u8], ends: &[u16], number: usize) -> bool {
 }
 
 // Whether the thirteen counts are those of the parts.
-fn are_bands(bands: &[u16], ends: &[u16]) -> bool {
+fn are_bands(bands: &[u16], pairs: &[u16]) -> bool {
     let mut k: usize = 0;
     while k < 13 {
-        if entry(bands, k) != naive::in_band(ends, k + 1) {
+        if entry(bands, k) != naive::in_band(pairs, k + 1) {
             return false;
         }
         k += 1;
@@ -41,27 +41,27 @@ fn is_summary(summary: Summary, parts: &[u16]) -> bool {
     let from = naive::latest(parts, longest);
     let bands = summary.bands;
     let placed = (summary.longest as usize == longest) & (summary.from as usize == from);
-    placed & (summary.count as usize == parts.len()) & are_bands(&bands, parts)
+    placed & (summary.count as usize == parts.len() / 2) & are_bands(&bands, parts)
 }
 
 /// Whether the summary is that of the parts, or the refusal beside that of no parts, which is 0 throughout.
-pub fn summary_agrees(word: &[u8], ends: &[u16]) -> bool {
-    let summary = summary::summarize(word, ends);
-    let refused = naive::summary_refusal(word.len(), ends);
-    let parts = front(ends, if refused == 0 { ends.len() } else { 0 });
+pub fn summary_agrees(word: &[u8], pairs: &[u16]) -> bool {
+    let summary = summary::summarize(word, pairs);
+    let refused = naive::summary_refusal(word.len(), pairs);
+    let parts = front(pairs, if refused == 0 { pairs.len() } else { 0 });
     (summary.refusal == refused) & is_summary(summary, parts)
 }
 
 /// The reader on list `code` / 5 of those with faults, at one of five numbers about the number of its ends.
 pub fn part_agrees_at_limits(word: &[u8], code: usize) -> bool {
-    let mut list = [0u16; ENTRIES];
+    let mut list = [0u16; PAIR_ENTRIES];
     let count = write_list(&mut list, word.len(), code / 5);
-    part_agrees(word, front(&list, count), about(0, count, code % 5 + 1))
+    part_agrees(word, front(&list, count), about(0, count / 2, code % 5 + 1))
 }
 
 /// The summary of list `code`.
 pub fn summary_agrees_at_limits(word: &[u8], code: usize) -> bool {
-    let mut list = [0u16; ENTRIES];
+    let mut list = [0u16; PAIR_ENTRIES];
     let count = write_list(&mut list, word.len(), code);
     summary_agrees(word, front(&list, count))
 }

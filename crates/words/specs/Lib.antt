@@ -1,4 +1,4 @@
--- The theory of a word's two factorizations and of its runs. Definitions that a reader must believe stand in six files; all else is proved.
+-- The theory of a word's two factorizations and of its runs. Definitions that a reader must believe stand in seven files; all else is proved.
 --
 --   name                          paper 01                    source 004           meaning
 --   Words
@@ -34,6 +34,11 @@
 --     separatedIcfl, separatedCflIn, separatedTable, separatedBreaks               icfl, cflIn, lyndonTable and the breaks of a record, by stretches
 --     SeparatedOf                                                                  a division into separators and words of a kind
 --     SeparatedDemand3            demand 3                                         of a record with separators
+--   Pairs (request 108)
+--     endsInside                  strict pieces inside                             how many strict ends lie after one place and not after another
+--     separatedPairs              entries of the piece cut                         each end of a record's factors with that number, in a flat list
+--     endsOf, countsOf                                                             the two lists that a list of pairs is made of
+--     PairsOf                     request 108                                      what is said of the pairs, a field each
 --   Runs (request 107)
 --     Repeats, Run                repetition                                       maximal repetition: first place, end, smallest period
 --     runs, isRun, repeatsTo                                                       all of them, by first place and then by period
@@ -56,9 +61,11 @@ pub mod Factorizations
 pub mod Statements
 pub mod Separated
 pub mod SeparatedStatements
+pub mod Pairs
 pub mod Runs
 pub mod Examples
 pub mod SeparatedExamples
+pub mod PairExamples
 pub mod Counterexamples
 pub mod orders
 pub mod lyndon

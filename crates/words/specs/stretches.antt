@@ -13,6 +13,8 @@
 --   CutSteps           one step of the piece cut from left to right
 --   Cuts               all of them: what the crates breaks and fates lean on
 --   SeparatedDemand3   demand 3 whole (separated-demand-3)
+--   StrictInside       how many strict ends lie in a part; between two of them, as many as the part has alone
+--   RecordPairs        the pairs of a record: what request 108 says of them (pairs-are)
 --   SeparatedLimits    its first sentence fails over separators, and with letters above them
 pub mod Unmarked
 pub mod Separation
@@ -28,4 +30,6 @@ pub mod FailingPrefixes
 pub mod CutSteps
 pub mod Cuts
 pub mod SeparatedDemand3
+pub mod StrictInside
+pub mod RecordPairs
 pub mod SeparatedLimits

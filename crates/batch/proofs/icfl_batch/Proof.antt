@@ -7,16 +7,16 @@ use mathlib.Core.Path.{_≡_, refl, _∙_}
 use native.Mathlib.Omega.{arith}
 use Rattle.buffers.proofs.PartLaws.{rest-length}
 use Rattle.checks.proofs.LineLaws.{passed}
-use Rattle.batch.proofs.Cutting.{batch-refused, Cutting, cutting-starts, cutting-ends, record-from, record-end, lent-on, lent-room}
+use Rattle.batch.proofs.Cutting.{used-few, batch-refused, Cutting, cutting-starts, cutting-ends, record-from, record-end, lent-on, lent-room}
 use Rattle.batch.proofs.icfl_batch.Statement.{statement}
 use Rattle.batch.proofs.icfl_batch.Tie as tie
 
 abbrev Inv-loop : tie.InvT-loop
-Inv-loop bytes record-ends work₀ ends₀ answers₀ from₀ used₀ i₀ work ends answers from used i =
-    Cutting bytes record-ends work₀ ends₀ work ends answers from used i × (length work ≡ length work₀) × (length ends ≡ length ends₀)
+Inv-loop bytes record-ends work₀ pairs₀ answers₀ from₀ used₀ i₀ work pairs answers from used i =
+    Cutting bytes record-ends work₀ pairs₀ work pairs answers from used i × (length work ≡ length work₀) × (length pairs ≡ length pairs₀)
 
 abbrev μ-loop : tie.MeasureT-loop
-μ-loop bytes record-ends work₀ ends₀ answers₀ from₀ used₀ i₀ work ends answers from used i = length record-ends - i
+μ-loop bytes record-ends work₀ pairs₀ answers₀ from₀ used₀ i₀ work pairs answers from used i = length record-ends - i
 
 check-record-ends-requires : tie.Need-check-record-ends-requires Inv-loop μ-loop
 check-record-ends-requires c κs = search needs
@@ -70,7 +70,7 @@ icfl-requires : tie.Need-icfl-requires Inv-loop μ-loop
 icfl-requires c κs = search needs
 
 entries-used-requires : tie.Need-entries-used-requires Inv-loop μ-loop
-entries-used-requires c κs = search needs
+entries-used-requires c κs = used-few (c .before .before .before .before .icfl .ensures)
 
 add-used : tie.Need-add-used Inv-loop μ-loop
 add-used c =

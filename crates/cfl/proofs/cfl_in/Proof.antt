@@ -19,9 +19,9 @@ accepted-at : (c : tie.After-enum-told) → Accepted (c .before .before .before 
 accepted-at c = accepted _ [] (admitted-at c)
 
 -- line 4 was tried after them
-tried-at : (c : tie.After-check-room) → let a = c .before .before .before .before .before .before .before .args in
+tried-at : (c : tie.After-check-room) → let a = c .before .before .before .before .before .before .args in
     c .check-room .result ≡ tried (cflInLines (a .word .now) (length (a .ends .now)))
-tried-at c = passed-first _ _ (admitted-at (c .before .before)) (c .check-room .ensures .answer)
+tried-at c = passed-first _ _ (admitted-at (c .before)) (c .check-room .ensures)
 
 check-record-requires : tie.Need-check-record-requires
 check-record-requires c κs = search needs
@@ -41,7 +41,7 @@ returns c =
     filled-refused _ _ _ (refused-first _ _ (c .before .before .before .check-record .ensures) is-refused) is-refused (c .number .ensures)
 
 check-room-requires : tie.Need-check-room-requires
-check-room-requires c κs = accepted-at (c .before) .short
+check-room-requires c κs = accepted-at c .short
 
 enum-told-3 : tie.Need-enum-told-3
 enum-told-3 c = search needs
@@ -52,35 +52,28 @@ enum-told-4 c = search needs
 number-requires-2 : tie.Need-number-requires-2
 number-requires-2 c κs = search needs
 
-same-length : tie.Need-same-length
-same-length c = search needs
-
 returns-2 : tie.Need-returns-2
-returns-2 c =
-    let at-room = c .before .before .before .before .before in
-    rw (at-room .check-room .ensures .kept) (filled-refused _ _ _ (tried-at at-room) (c .before .before .match2 .keys2) (c .number2 .ensures))
+returns-2 c = filled-refused _ _ _ (tried-at (c .before .before .before)) (c .before .before .match2 .keys2) (c .number2 .ensures)
 
 walk-requires : tie.Need-walk-requires
 walk-requires c κs =
-    let at-room = c .before .before .before .before .before in
-    let room = at-room .check-room .ensures in
+    let at-room = c .before .before .before in
     record {
-      short = accepted-at (at-room .before .before) .short;
-      entries = λ e. rw (room .kept) (enough 4 _ _ (passed _ (room .answer) (c .before .before .match2 .keys1)));
+      short = accepted-at (at-room .before) .short;
+      entries = λ e. enough 4 _ _ (passed _ (at-room .check-room .ensures) (c .before .before .match2 .keys1));
     }
 
-same-length-2 : tie.Need-same-length-2
-same-length-2 c = search needs
+same-length : tie.Need-same-length
+same-length c = search needs
 
 returns-3 : tie.Need-returns-3
 returns-3 c =
     let at-match = c .before .before .before .before .before in
-    let at-room = at-match .before .before .before in
     let walk = c .before .before .walk .ensures in
-    filled-done (passed _ (tried-at at-room) (at-match .match2 .keys1)) (walk .count) (rw (at-room .check-room .ensures .kept) at (walk .stored refl))
+    filled-done (passed _ (tried-at (at-match .before)) (at-match .match2 .keys1)) (walk .count) (walk .stored refl)
 
 pub cfl-in-spec : {M : Type 1} → statement M
 cfl-in-spec =
     tie.close
     (tie.spec check-record-requires enum-told enum-told-2 number-requires returns check-room-requires enum-told-3 enum-told-4
-    number-requires-2 same-length returns-2 walk-requires same-length-2 returns-3)
+    number-requires-2 returns-2 walk-requires same-length returns-3)

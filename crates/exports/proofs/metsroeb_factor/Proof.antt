@@ -1,6 +1,6 @@
 use borrow.Author.Needs.{needs}
 use mathlib.Core.Path.{_≡_, _∙_, ap}
-use native.Mathlib.Omega.{arith}
+use Rattle.words.specs.Pairs.{endsOf}
 use Rattle.checks.specs.Lines.{tried}
 use Rattle.checks.specs.Answers.{numberOf}
 use Rattle.checks.specs.declared.Checked.the-variants.{Passed}
@@ -11,11 +11,11 @@ use Rattle.exports.proofs.metsroeb_factor.Statement.{statement}
 use Rattle.exports.proofs.metsroeb_factor.Tie as tie
 
 admitted-at : (c : tie.After-enum-told) → (let start = c .before .before .before .before .before in
-    tried (factorLines (start .args .word .now) (start .args .ends .now) (start .args .number)) ≡ Passed)
+    tried (factorLines (start .args .word .now) (start .args .pairs .now) (start .args .number)) ≡ Passed)
 admitted-at c = passed _ (c .before .before .admit-factor .ensures) (c .before .match .keys1)
 
 placed-at : (c : tie.After-enum-told) → (let start = c .before .before .before .before .before in
-    Placed (start .args .word .now) (start .args .ends .now) (start .args .number))
+    Placed (start .args .word .now) (endsOf (start .args .pairs .now)) (start .args .number))
 placed-at c = placed _ _ _ (admitted-at c)
 
 admit-factor-requires : tie.Need-admit-factor-requires
@@ -43,18 +43,15 @@ returns c =
 factor-from-requires : tie.Need-factor-from-requires
 factor-from-requires c κs = placed-at c .listed
 
-mul-end : tie.Need-mul-end
-mul-end c = omega (arith, placed-at (c .before) .listed)
-
-shared-slice-read-end : tie.Need-shared-slice-read-end
-shared-slice-read-end c = placed-at (c .before .before) .listed
+factor-end-requires : tie.Need-factor-end-requires
+factor-end-requires c κs = placed-at (c .before) .listed
 
 returns-2 : tie.Need-returns-2
 returns-2 c =
     let none = admitted-at (c .before .before) in
-    record { refusal = rw none; first-is = rw none (c .before .factor-from .ensures); end-is = rw none }
+    record { refusal = rw none; first-is = rw none (c .before .factor-from .ensures); end-is = rw none (c .factor-end .ensures) }
 
 pub metsroeb-factor-spec : {M : Type 1} → statement M
 metsroeb-factor-spec =
     tie.close
-    (tie.spec admit-factor-requires enum-told enum-told-2 number-requires returns factor-from-requires mul-end shared-slice-read-end returns-2)
+    (tie.spec admit-factor-requires enum-told enum-told-2 number-requires returns factor-from-requires factor-end-requires returns-2)

@@ -8,10 +8,10 @@ use Rattle.exports.proofs.metsroeb_icfl_batch.Statement.{statement}
 use Rattle.exports.proofs.metsroeb_icfl_batch.Tie as tie
 
 abbrev Inv-loop : tie.InvT-loop
-Inv-loop bytes record-ends work ends replies₀ answers i₀ replies i = Replied (answers .places) replies i
+Inv-loop bytes record-ends work pairs replies₀ answers i₀ replies i = Replied (answers .places) replies i
 
 abbrev μ-loop : tie.MeasureT-loop
-μ-loop bytes record-ends work ends replies₀ answers i₀ replies i = mostRecords - i
+μ-loop bytes record-ends work pairs replies₀ answers i₀ replies i = mostRecords - i
 
 icfl-batch-requires : tie.Need-icfl-batch-requires Inv-loop μ-loop
 icfl-batch-requires c κs = search needs

@@ -1,9 +1,9 @@
--- Admission; the ends are found in the work buffer; then line 4 refuses, or they are copied; either way the buffer is cleared.
+-- Admission; the ends are found in the work buffer; then line 4 refuses, or the pairs are written; either way the buffer is cleared.
 use borrow.Author.Needs.{needs}
 use mathlib.Core.Path.{_≡_}
 use Prim.Native.Nat.{_*_, _≤_}
 use native.Mathlib.Omega.{arith}
-use lib.ListN.{length, length-take, length-drop}
+use lib.ListN.{length}
 use Rattle.words.specs.Words.{mostLetters}
 use Rattle.checks.specs.Lines.{tried}
 use Rattle.checks.specs.declared.Checked.the-variants.{Passed}
@@ -11,7 +11,7 @@ use Rattle.checks.proofs.LineLaws.{passed}
 use Rattle.checks.proofs.RecordLaws.{enough}
 use Rattle.breaks.specs.Cutting.{CutRoom}
 use Rattle.icfl.specs.Icfl.{icflAdmission}
-use Rattle.icfl.proofs.IcflCases.{cut-room, admission-refused, result-refused, ends-written}
+use Rattle.icfl.proofs.IcflCases.{pairs-room, cut-room, admission-refused, result-refused, pairs-written}
 use Rattle.icfl.proofs.icfl.Statement.{statement}
 use Rattle.icfl.proofs.icfl.Tie as tie
 
@@ -53,6 +53,9 @@ find-ends-requires c κs = room-at (c .before)
 sub-count : tie.Need-sub-count
 sub-count c = search needs
 
+mul-check-result : tie.Need-mul-check-result
+mul-check-result c = omega (arith, inside-at (c .before .before))
+
 check-result-requires : tie.Need-check-result-requires
 check-result-requires c κs = search needs
 
@@ -81,26 +84,26 @@ returns-2 c =
     result-refused _ _ _ (admitted-at (at-found .before .before)) (at-found .find-ends .ensures) (inside-at at-found .1) (c .before .before .before .clear .ensures)
     (at-room .before .check-result .ensures) (at-room .match2 .keys2) (c .number2 .ensures)
 
-mul-copy : tie.Need-mul-copy
-mul-copy c = search needs
+mul-write-pairs : tie.Need-mul-write-pairs
+mul-write-pairs c = search needs
 
-sub-copy : tie.Need-sub-copy
-sub-copy c = search needs
+sub-write-pairs : tie.Need-sub-write-pairs
+sub-write-pairs c = search needs
 
-part-copy-start : tie.Need-part-copy-start
-part-copy-start c = search needs
+part-write-pairs-start : tie.Need-part-write-pairs-start
+part-write-pairs-start c = search needs
 
-part-copy-end : tie.Need-part-copy-end
-part-copy-end c = omega (arith, inside-at (c .before .before .before .before .before .before))
+part-write-pairs-end : tie.Need-part-write-pairs-end
+part-write-pairs-end c = omega (arith, inside-at (c .before .before .before .before .before .before))
 
-copy-requires : tie.Need-copy-requires
-copy-requires c κs =
+write-pairs-requires : tie.Need-write-pairs-requires
+write-pairs-requires c κs =
     let at-room = c .before .before .before .before in
     let at-found = at-room .before .before .before .before in
     let start = at-found .before .before .before .before .before .before .before .before in
     let fits = passed _ (at-room .before .check-result .ensures) (at-room .match2 .keys1) in
-    let space = enough 4 (length (start .args .ends .now)) _ fits in
-    simp (length-take, length-drop) (omega (arith, space))
+    let inside = inside-at at-found in
+    pairs-room (at-found .find-ends .ensures) (inside .1) (inside .2) (enough 4 (length (start .args .pairs .now)) _ fits)
 
 mul-clear-2 : tie.Need-mul-clear-2
 mul-clear-2 c = omega (arith, inside-at (c .before .before .before .before .before .before .before .before .before .before .before .before))
@@ -116,15 +119,15 @@ same-length-3 c = search needs
 
 returns-3 : tie.Need-returns-3
 returns-3 c =
-    let at-copy = c .before .before .before .before .before .before in
-    let at-room = at-copy .before .before .before .before .before in
+    let at-pairs = c .before .before .before .before .before .before in
+    let at-room = at-pairs .before .before .before .before .before in
     let at-found = at-room .before .before .before .before in
-    ends-written _ _ _ (admitted-at (at-found .before .before)) (at-found .find-ends .ensures) (inside-at at-found .1) (c .before .before .clear2 .ensures)
-    (passed _ (at-room .before .check-result .ensures) (at-room .match2 .keys1)) (at-copy .copy .ensures)
+    pairs-written _ _ _ (admitted-at (at-found .before .before)) (at-found .find-ends .ensures) (inside-at at-found .1) (c .before .before .clear2 .ensures)
+    (passed _ (at-room .before .check-result .ensures) (at-room .match2 .keys1)) (at-pairs .write-pairs .ensures)
 
 pub icfl-spec : {M : Type 1} → statement M
 icfl-spec =
     tie.close
-    (tie.spec admit-requires enum-told enum-told-2 number-requires returns find-ends-requires sub-count check-result-requires
-    enum-told-3 enum-told-4 mul-clear clear-requires number-requires-2 same-length returns-2 mul-copy sub-copy part-copy-start part-copy-end
-    copy-requires mul-clear-2 clear-requires-2 same-length-2 same-length-3 returns-3)
+    (tie.spec admit-requires enum-told enum-told-2 number-requires returns find-ends-requires sub-count mul-check-result check-result-requires
+    enum-told-3 enum-told-4 mul-clear clear-requires number-requires-2 same-length returns-2 mul-write-pairs sub-write-pairs part-write-pairs-start part-write-pairs-end
+    write-pairs-requires mul-clear-2 clear-requires-2 same-length-2 same-length-3 returns-3)

@@ -1,4 +1,4 @@
--- The summary of the piece cut's ends is accepted, so the lines are the listing's.
+-- The piece cut's pairs are accepted by the summary, so the lines are the listing's.
 use borrow.Author.Needs.{needs}
 use native.Mathlib.Omega.{arith}
 use Rattle.listing.proofs.Results.{printable, lines-are}

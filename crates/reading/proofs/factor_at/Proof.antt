@@ -4,7 +4,7 @@ use mathlib.Core.Path.{_≡_, ap, _∙_}
 use mathlib.Core.List.{List, []}
 use Prim.Native.Nat.{ℕ}
 use native.Mathlib.Omega.{arith}
-use lib.ListN.{getD}
+use Rattle.words.specs.Pairs.{endsOf}
 use Rattle.buffers.proofs.PartLaws.{part-is}
 use Rattle.checks.specs.declared.Checked.the-variants.{Passed}
 use Rattle.checks.specs.Lines.{tried}
@@ -16,14 +16,14 @@ use Rattle.reading.proofs.factor_at.Statement.{statement}
 use Rattle.reading.proofs.factor_at.Tie as tie
 
 passed-at : (c : tie.After-enum-told) → let a = c .before .before .before .before .before .before .args in
-    tried (factorLines (a .word .now) (a .ends .now) (a .number)) ≡ Passed
+    tried (factorLines (a .word .now) (a .pairs .now) (a .number)) ≡ Passed
 passed-at c = passed _ (c .before .before .before .admit-factor .ensures) (c .before .match .keys1)
 
-placed-at : (c : tie.After-enum-told) → let a = c .before .before .before .before .before .before .args in Placed (a .word .now) (a .ends .now) (a .number)
+placed-at : (c : tie.After-enum-told) → let a = c .before .before .before .before .before .before .args in Placed (a .word .now) (endsOf (a .pairs .now)) (a .number)
 placed-at c = placed _ _ _ (passed-at c)
 
 number-at : (c : tie.After-number) → let a = c .before .before .before .before .args in
-    c .number .result ≡ numberOf (tried (factorLines (a .word .now) (a .ends .now) (a .number)))
+    c .number .result ≡ numberOf (tried (factorLines (a .word .now) (a .pairs .now) (a .number)))
 number-at c = c .number .ensures ∙ ap numberOf (c .before .admit-factor .ensures)
 
 admit-factor-requires : tie.Need-admit-factor-requires
@@ -62,23 +62,20 @@ factor-from-requires c κs = placed-at c .listed
 cast-from : tie.Need-cast-from
 cast-from c = search needs
 
-mul-end : tie.Need-mul-end
-mul-end c = let p = placed-at (c .before) in search needs
-
-shared-slice-read-end : tie.Need-shared-slice-read-end
-shared-slice-read-end c = placed-at (c .before .before) .listed
+factor-end-requires : tie.Need-factor-end-requires
+factor-end-requires c κs = placed-at (c .before) .listed
 
 cast-end : tie.Need-cast-end
-cast-end c = omega (arith, c .shared-slice-known3 .given (c .before .before .before .before .before .before .before .before .args .number))
+cast-end c = search needs
 
 sub-result-2 : tie.Need-sub-result-2
-sub-result-2 c = omega (arith, placed-at (c .before .before) .ordered, c .before .factor-from .ensures)
+sub-result-2 c = omega (arith, placed-at (c .before .before) .ordered, c .factor-end .ensures, c .before .factor-from .ensures)
 
 part-result-start-2 : tie.Need-part-result-start-2
-part-result-start-2 c = omega (arith, placed-at (c .before .before) .ordered, c .before .factor-from .ensures)
+part-result-start-2 c = omega (arith, placed-at (c .before .before) .ordered, c .factor-end .ensures, c .before .factor-from .ensures)
 
 part-result-end-2 : tie.Need-part-result-end-2
-part-result-end-2 c = placed-at (c .before .before) .inside
+part-result-end-2 c = omega (arith, placed-at (c .before .before) .inside, c .factor-end .ensures)
 
 returns-2 : tie.Need-returns-2
 returns-2 c =
@@ -88,11 +85,13 @@ returns-2 c =
     let a = at-number .before .before .before .before .args in
     record {
       number-is = number-at at-number;
-      part-is = rw (passed-at at-match, ← at-from .factor-from .ensures) (part-is _ (getD (a .ends .now) (a .number) 0) (a .word .now));
+      part-is =
+          rw (passed-at at-match, ← at-from .factor-from .ensures, ← c .before .factor-end .ensures)
+          (part-is (at-from .factor-from .result) (c .before .factor-end .result) (a .word .now));
     }
 
 pub factor-at-spec : {M : Type 1} → statement M
 factor-at-spec =
     tie.close
     (tie.spec admit-factor-requires number-requires enum-told enum-told-2 sub-result part-result-start part-result-end returns
-    factor-from-requires cast-from mul-end shared-slice-read-end cast-end sub-result-2 part-result-start-2 part-result-end-2 returns-2)
+    factor-from-requires cast-from factor-end-requires cast-end sub-result-2 part-result-start-2 part-result-end-2 returns-2)

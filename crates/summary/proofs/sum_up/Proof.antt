@@ -1,36 +1,50 @@
 -- What is summed up so far, together with the parts that follow, is the definition's summary. A part has 1 to 4,096 letters, so its band is one of the
 -- thirteen; and no count is above the number of ends, so none wraps.
 use borrow.Author.Needs.{needs}
+use mathlib.Core.Path.{_≡_, sym}
 use mathlib.Core.Logic.{⊎-map}
-use Prim.Native.Nat.{_-_, _≤_, _<_}
+use Prim.Native.Nat.{_-_, _*_, _/_, _≤_, _<_}
 use native.Mathlib.Omega.{arith}
 use lib.ListN.{length, getD}
+use Rattle.words.specs.Pairs.{endsOf}
+use Rattle.words.specs.places.PairedLists.{ends-half, ends-at}
 use Rattle.summary.proofs.BitLengths.{bit-length-some, bit-length-most}
-use Rattle.summary.proofs.Summing.{SummedUpTo, summed-start, summed-above, summed-room, summed-next, summed-end}
+use Rattle.summary.proofs.Summing.{SummedUpTo, summed-start, summed-above, summed-room, summed-on, summed-end}
 use Rattle.summary.proofs.sum_up.Statement.{statement}
 use Rattle.summary.proofs.sum_up.Tie as tie
 
 abbrev Inv-loop : tie.InvT-loop
-Inv-loop ends bands₀ longest₀ from₀ last₀ i₀ bands longest from last i = SummedUpTo ends longest from bands last i
+Inv-loop pairs count bands₀ longest₀ from₀ last₀ i₀ bands longest from last i = SummedUpTo (endsOf pairs) longest from bands last i
 
 abbrev μ-loop : tie.MeasureT-loop
-μ-loop ends bands₀ longest₀ from₀ last₀ i₀ bands longest from last i = length ends - i
+μ-loop pairs count bands₀ longest₀ from₀ last₀ i₀ bands longest from last i = length pairs / 2 - i
 
-above-at : (c : tie.In-loop Inv-loop μ-loop) → c .before .loop .last < getD (c .before .before .before .args .ends .now) (c .before .loop .i) 0
-above-at c = summed-above (c .before .loop .inv) (c .loop-test .taken) (c .before .before .before .pre)
+-- one of the ends is taken, and stands in the list
+taken-at : (c : tie.In-loop Inv-loop μ-loop) → c .before .loop .i < length (endsOf (c .before .before .before .args .pairs .now))
+taken-at c = omega (arith, ends-half (c .before .before .before .args .pairs .now), c .loop-test .taken)
+
+end-at : (c : tie.In-loop Inv-loop μ-loop) → (let ps = c .before .before .before .args .pairs .now in
+    getD ps (2 * c .before .loop .i) 0 ≡ getD (endsOf ps) (c .before .loop .i) 0)
+end-at c = sym (ends-at (c .before .before .before .args .pairs .now) (c .before .loop .i) (taken-at c))
+
+above-at : (c : tie.In-loop Inv-loop μ-loop) → c .before .loop .last < getD (c .before .before .before .args .pairs .now) (2 * c .before .loop .i) 0
+above-at c = rw (end-at c) (summed-above (c .before .loop .inv) (taken-at c) (c .before .before .before .pre))
 
 -- a band that is counted
 band-at : (c : tie.After-bit-length Inv-loop μ-loop) → (1 ≤ c .bit-length .result) × (c .bit-length .result ≤ 13)
 band-at c =
     let turn = c .before .before .before .before in
     let short = turn .before .before .before .pre .short (turn .before .loop .i) in
-    rw (c .bit-length .ensures) (bit-length-some _ (omega (arith, above-at turn)), bit-length-most _ (omega (arith, short)))
+    rw (c .bit-length .ensures) (bit-length-some _ (omega (arith, above-at turn)), bit-length-most _ (omega (arith, short, end-at turn)))
 
 loop-holds : tie.Need-loop-holds Inv-loop μ-loop
 loop-holds c = summed-start _
 
 mul-end : tie.Need-mul-end Inv-loop μ-loop
 mul-end c = search needs
+
+mul-end-2 : tie.Need-mul-end-2 Inv-loop μ-loop
+mul-end-2 c = search needs
 
 shared-slice-read-end : tie.Need-shared-slice-read-end Inv-loop μ-loop
 shared-slice-read-end c = search needs
@@ -67,19 +81,19 @@ loop-less c = search needs
 loop-again : tie.Need-loop-again Inv-loop μ-loop
 loop-again c =
     let turn = c .before .before .before .before in
-    summed-next (turn .before .loop .inv) (turn .loop-test .taken) (above-at turn)
+    summed-on (turn .before .loop .inv) (taken-at turn) (end-at turn) (above-at turn)
     (⊎-map (λ x. (omega (arith, x .0 .taken), x .1)) (λ x. (omega (arith, x .0 .left), x .1)) (c .before .before .if1 .came))
     (⊎-map (λ x. (omega (arith, x .0 .taken), x .1)) (λ x. (omega (arith, x .0 .left), x .1)) (c .before .if2 .came))
     (c .bit-length .ensures) (band-at c .0)
 
-cast-t19 : tie.Need-cast-t19 Inv-loop μ-loop
-cast-t19 c = omega (arith, c .before .loop .inv .inside, c .before .before .before .pre .few)
+cast-t22 : tie.Need-cast-t22 Inv-loop μ-loop
+cast-t22 c = omega (arith, c .before .loop .inv .inside, c .before .before .before .pre .few)
 
 returns : tie.Need-returns Inv-loop μ-loop
-returns c = summed-end (c .before .loop .inv) (c .loop-test .left)
+returns c = summed-end (c .before .loop .inv) (omega (arith, ends-half (c .before .before .before .args .pairs .now), c .loop-test .left))
 
 pub sum-up-spec : {M : Type 1} → statement M
 sum-up-spec =
     tie.close
-    (tie.spec Inv-loop μ-loop loop-holds mul-end shared-slice-read-end sub-size bit-length-requires sub-band mul-bands array-read-bands add-bands
-    array-write-bands add-i loop-less loop-again cast-t19 returns)
+    (tie.spec Inv-loop μ-loop loop-holds mul-end mul-end-2 shared-slice-read-end sub-size bit-length-requires sub-band mul-bands array-read-bands add-bands
+    array-write-bands add-i loop-less loop-again cast-t22 returns)

@@ -2,6 +2,7 @@
 use borrow.Author.Needs.{needs}
 use mathlib.Core.Path.{_≡_, _∙_}
 use Rattle.checks.specs.declared.Checked.the-variants.{Passed}
+use Rattle.words.specs.Pairs.{endsOf}
 use Rattle.checks.specs.Lines.{tried}
 use Rattle.checks.proofs.LineLaws.{passed, refused}
 use Rattle.summary.specs.Summary.{summaryLines, emptySummary}
@@ -9,14 +10,14 @@ use Rattle.summary.proofs.EndsAdmitted.{EndsAccepted, ends-admitted, su
 use Rattle.summary.proofs.summarize.Statement.{statement}
 use Rattle.summary.proofs.summarize.Tie as tie
 
-passed-at : (c : tie.After-enum-told) → let a = c .before .before .before .before .before .args in tried (summaryLines (a .word .now) (a .ends .now)) ≡ Passed
-passed-at c = passed _ (c .before .before .admit-ends .ensures) (c .before .match .keys1)
+passed-at : (c : tie.After-enum-told) → let a = c .before .before .before .before .before .args in tried (summaryLines (a .word .now) (a .pairs .now)) ≡ Passed
+passed-at c = passed _ (c .before .before .admit-pairs .ensures) (c .before .match .keys1)
 
-accepted-at : (c : tie.After-enum-told) → let a = c .before .before .before .before .before .args in EndsAccepted (a .word .now) (a .ends .now)
+accepted-at : (c : tie.After-enum-told) → let a = c .before .before .before .before .before .args in EndsAccepted (a .word .now) (endsOf (a .pairs .now))
 accepted-at c = ends-admitted _ _ (passed-at c)
 
-admit-ends-requires : tie.Need-admit-ends-requires
-admit-ends-requires c κs = search needs
+admit-pairs-requires : tie.Need-admit-pairs-requires
+admit-pairs-requires c κs = search needs
 
 enum-told : tie.Need-enum-told
 enum-told c = search needs
@@ -34,7 +35,7 @@ returns : tie.Need-returns
 returns c =
     let at-match = c .before .before .before in
     record {
-      answer = c .empty .ensures ∙ refused _ _ emptySummary (at-match .before .admit-ends .ensures) (at-match .match .keys2) (c .before .number .ensures);
+      answer = c .empty .ensures ∙ refused _ _ emptySummary (at-match .before .admit-pairs .ensures) (at-match .match .keys2) (c .before .number .ensures);
     }
 
 sum-up-requires : tie.Need-sum-up-requires
@@ -46,4 +47,4 @@ returns-2 c = record { answer = rw (passed-at (c .before)) (c .sum-up .ensures) 
 pub summarize-spec : {M : Type 1} → statement M
 summarize-spec =
     tie.close
-    (tie.spec admit-ends-requires enum-told enum-told-2 number-requires empty-requires returns sum-up-requires returns-2)
+    (tie.spec admit-pairs-requires enum-told enum-told-2 number-requires empty-requires returns sum-up-requires returns-2)

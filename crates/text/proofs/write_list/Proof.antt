@@ -1,22 +1,23 @@
--- The first number, then a comma and a number in each turn; the numbers that are left have room.
+-- The first number, then a byte and a number in each turn, the two bytes exchanged; the numbers that are left have room.
 use borrow.Author.Needs.{needs}
 use mathlib.Core.Path.{_∙_}
-use mathlib.Core.List.{List}
+use mathlib.Core.List.{List, [], _∷_}
 use Prim.Native.Nat.{ℕ, suc, _+_, _-_, _≤_}
 use native.Mathlib.Omega.{arith}
 use lib.ListN.{length, drop, getD, length-set}
-use Rattle.text.specs.Text.{decimal, commaEach}
+use Rattle.text.specs.Text.{decimal, eachAfter}
 use Rattle.text.proofs.Stores.{wrote-then, wrote-long, Left, left-all, left-byte, left-text, left-none}
-use Rattle.text.proofs.Texts.{list-none, comma-first, first-length, comma-at, comma-length, comma-end}
+use Rattle.text.proofs.Texts.{list-none, list-first, first-length, each-at, each-length, each-end}
 use Rattle.text.proofs.write_list.Statement.{statement}
 use Rattle.text.proofs.write_list.Tie as tie
 
 abbrev Inv-loop : tie.InvT-loop
-Inv-loop numbers out₀ at place₀ i₀ out place i =
-    Left place₀ (commaEach (drop 1 numbers)) out₀ place (commaEach (drop i numbers)) out × (place₀ + length (commaEach (drop 1 numbers)) ≤ length out₀)
+Inv-loop numbers first second out₀ at place₀ before₀ next₀ i₀ out place before next i =
+    Left place₀ (eachAfter (first ∷ []) (second ∷ []) (drop 1 numbers)) out₀ place (eachAfter (before ∷ []) (next ∷ []) (drop i numbers)) out
+    × (place₀ + length (eachAfter (first ∷ []) (second ∷ []) (drop 1 numbers)) ≤ length out₀)
 
 abbrev μ-loop : tie.MeasureT-loop
-μ-loop numbers out₀ at place₀ i₀ out place i = length numbers - i
+μ-loop numbers first second out₀ at place₀ before₀ next₀ i₀ out place before next i = length numbers - i
 
 -- the numbers, from a turn; the comma and the number of the turn have room
 abbrev numbers-at : tie.In-loop Inv-loop μ-loop → List ℕ
@@ -24,10 +25,10 @@ numbers-at c = c .before .before .before .before .before .before .before .before
 
 room-at : (c : tie.In-loop Inv-loop μ-loop)
     → (let at = c .before .loop in at .place + suc (length (decimal (getD (numbers-at c) (at .i) 0))) ≤ length (at .out))
-room-at c = omega (arith, comma-length (numbers-at c) (c .before .loop .i) (c .loop-test .taken))
+room-at c = omega (arith, each-length (c .before .loop .before) (c .before .loop .next) (numbers-at c) (c .before .loop .i) (c .loop-test .taken))
 
 returns : tie.Need-returns Inv-loop μ-loop
-returns c = list-none _ _ _ (c .if1 .taken)
+returns c = list-none _ _ _ _ _ (c .if1 .taken)
 
 shared-slice-read-write-decimal : tie.Need-shared-slice-read-write-decimal Inv-loop μ-loop
 shared-slice-read-write-decimal c = search needs
@@ -35,12 +36,12 @@ shared-slice-read-write-decimal c = search needs
 write-decimal-requires : tie.Need-write-decimal-requires Inv-loop μ-loop
 write-decimal-requires c κs =
     let start = c .before .before .before .before .before in
-    record { inside = omega (arith, first-length (start .args .numbers .now) (omega arith)) }
+    record { inside = omega (arith, first-length (start .args .first ∷ []) (start .args .second ∷ []) (start .args .numbers .now) (omega arith)) }
 
 loop-holds : tie.Need-loop-holds Inv-loop μ-loop
 loop-holds c =
     let start = c .before .before .before .before .before .before .before .before in
-    (left-all _ _ _, omega (arith, first-length (start .args .numbers .now) (omega arith)))
+    (left-all _ _ _, omega (arith, first-length (start .args .first ∷ []) (start .args .second ∷ []) (start .args .numbers .now) (omega arith)))
 
 slice-write-out : tie.Need-slice-write-out Inv-loop μ-loop
 slice-write-out c = omega (arith, room-at c)
@@ -67,7 +68,7 @@ loop-again : tie.Need-loop-again Inv-loop μ-loop
 loop-again c =
     let turn = c .before .before .before .before .before in
     let inv = turn .before .loop .inv in
-    (left-text (left-byte (rw (comma-at _ _ (turn .loop-test .taken)) at (inv .0))) (c .before .before .write-decimal2 .ensures), inv .1)
+    (left-text (left-byte (rw (each-at _ _ _ _ (turn .loop-test .taken)) at (inv .0))) (c .before .before .write-decimal2 .ensures), inv .1)
 
 same-length : tie.Need-same-length Inv-loop μ-loop
 same-length c = c .before .loop .inv .0 .long ∙ wrote-long (c .before .before .before .before .write-decimal .ensures)
@@ -75,9 +76,10 @@ same-length c = c .before .loop .inv .0 .long ∙ wrote-long (c .before .before 
 returns-2 : tie.Need-returns-2 Inv-loop μ-loop
 returns-2 c =
     let first = c .before .before .before .before in
-    let numbers = first .before .before .before .before .before .before .args .numbers .now in
-    rw (comma-first numbers (omega arith))
-    (wrote-then (first .write-decimal .ensures) (left-none (rw (comma-end numbers (c .before .loop .i) (c .loop-test .left)) at (c .before .loop .inv .0))))
+    let a = first .before .before .before .before .before .before .args in
+    let at = c .before .loop in
+    rw (list-first (a .first ∷ []) (a .second ∷ []) (a .numbers .now) (omega arith))
+    (wrote-then (first .write-decimal .ensures) (left-none (rw (each-end (at .before) (at .next) (a .numbers .now) (at .i) (c .loop-test .left)) at (at .inv .0))))
 
 pub write-list-spec : {M : Type 1} → statement M
 write-list-spec =

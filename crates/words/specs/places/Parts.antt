@@ -36,7 +36,7 @@ rises-adjacent {i = i} {j = j} (more {b = b} {e = e} {es = es} h r) x = go (adja
     go (inl z) next = (omega (arith, z .0), omega (arith, z .0, z .1))
     go (inr y) next = (omega (arith, next y .0), next y .1)
 
-slice-middle : (u m y : List ℕ) {i j : ℕ} → i ≡ length u → j ≡ length u + length m → slice i j (u ++ (m ++ y)) ≡ m
+pub slice-middle : (u m y : List ℕ) {i j : ℕ} → i ≡ length u → j ≡ length u + length m → slice i j (u ++ (m ++ y)) ≡ m
 slice-middle u m y {i} {j} p q = rw (← append-assoc u m y, take-at (u ++ m) y j (rw length-append (omega arith)), drop-at u m i (omega arith))
 
 -- m, which ends where the list begins, and the first word of the list

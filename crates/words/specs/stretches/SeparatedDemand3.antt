@@ -126,7 +126,7 @@ module _ (w : List ℕ) where
 
 -- ---- ends of strict pieces
 
-boundary-strict : {w : List ℕ} → Separation w → (e : ℕ) → Boundary e (separatedIcfl w) → Boundary e (separatedCflIn w)
+pub boundary-strict : {w : List ℕ} → Separation w → (e : ℕ) → Boundary e (separatedIcfl w) → Boundary e (separatedCflIn w)
 boundary-strict (whole {v = v} u) e b =
     let c : Boundary e (icfl v) = rw (icfl-unmarked v u) at b in
     rw (cfl-in-unmarked v u) (first-cfl-in-boundary v e (icfl-inside v e c) (icfl-first v e c))

@@ -3,7 +3,7 @@ use borrow.Author.Needs.{needs}
 use mathlib.Core.Path.{_≡_}
 use Prim.Native.Nat.{_-_, _*_, _≤_}
 use native.Mathlib.Omega.{arith}
-use lib.ListN.{length, length-take, length-drop}
+use lib.ListN.{length}
 use Rattle.words.specs.Words.{mostLetters}
 use Rattle.checks.specs.Lines.{tried}
 use Rattle.checks.specs.declared.Checked.the-variants.{Passed}
@@ -11,7 +11,7 @@ use Rattle.checks.proofs.LineLaws.{both, passed}
 use Rattle.breaks.specs.Cutting.{CutRoom}
 use Rattle.breaks.proofs.NoteLaws.{breaks-fewer}
 use Rattle.icfl.specs.Icfl.{icflAdmission}
-use Rattle.icfl.proofs.IcflCases.{cut-room}
+use Rattle.icfl.proofs.IcflCases.{pairs-room, cut-room}
 use Rattle.icfl.proofs.BreaksCases.{roomLines, rooms, breaks-unadmitted, breaks-refused, breaks-written}
 use Rattle.icfl.proofs.with_breaks.icfl_with_breaks.Statement.{statement}
 use Rattle.icfl.proofs.with_breaks.icfl_with_breaks.Tie as tie
@@ -36,19 +36,19 @@ inside-at c =
 -- what both lines with number 4 say
 tried-at : (c : tie.After-then) → (let at-found = c .before .before .before .before .before in
     let start = at-found .before .before .before .before .before .before .before .before .before in
-    c .then .result ≡ tried (roomLines (length (start .args .ends .now)) (length (start .args .breaks .now))
+    c .then .result ≡ tried (roomLines (length (start .args .pairs .now)) (length (start .args .breaks .now))
     (length (start .args .word .now) - at-found .find-ends .result .first) (at-found .find-ends .result .breaks)))
 tried-at c = both _ _ (c .then .ensures) (c .before .before .check-result .ensures) (c .before .check-result2 .ensures)
 
 -- past them there is room
 fits-at : (c : tie.After-enum-told3) → (let at-found = c .before .before .before .before .before .before .before in
     let start = at-found .before .before .before .before .before .before .before .before .before in
-    (length (start .args .word .now) - at-found .find-ends .result .first ≤ length (start .args .ends .now))
+    (2 * (length (start .args .word .now) - at-found .find-ends .result .first) ≤ length (start .args .pairs .now))
     × (5 * at-found .find-ends .result .breaks ≤ length (start .args .breaks .now)))
 fits-at c =
     let at-found = c .before .before .before .before .before .before .before in
     let start = at-found .before .before .before .before .before .before .before .before .before in
-    rooms (length (start .args .ends .now)) (length (start .args .breaks .now)) (length (start .args .word .now) - at-found .find-ends .result .first)
+    rooms (length (start .args .pairs .now)) (length (start .args .breaks .now)) (length (start .args .word .now) - at-found .find-ends .result .first)
     (at-found .find-ends .result .breaks) (passed _ (tried-at (c .before .before)) (c .before .match2 .keys1))
 
 admit-requires : tie.Need-admit-requires
@@ -72,11 +72,14 @@ find-ends-requires c κs = room-at (c .before)
 sub-factors : tie.Need-sub-factors
 sub-factors c = search needs
 
+mul-check-result : tie.Need-mul-check-result
+mul-check-result c = omega (arith, inside-at (c .before .before))
+
 check-result-requires : tie.Need-check-result-requires
 check-result-requires c κs = search needs
 
-mul-check-result : tie.Need-mul-check-result
-mul-check-result c =
+mul-check-result-2 : tie.Need-mul-check-result-2
+mul-check-result-2 c =
     let at-found = c .before .before .before in
     omega (arith, breaks-fewer (at-found .find-ends .ensures), inside-at at-found)
 
@@ -111,20 +114,23 @@ returns-2 c =
     breaks-refused _ _ _ _ (admitted-at (at-found .before .before)) (at-found .find-ends .ensures) (inside-at at-found .1)
     (c .before .before .before .clear .ensures) (tried-at (at-room .before)) (at-room .match2 .keys2) (c .number2 .ensures)
 
-mul-copy : tie.Need-mul-copy
-mul-copy c = search needs
+mul-write-pairs : tie.Need-mul-write-pairs
+mul-write-pairs c = search needs
 
-sub-copy : tie.Need-sub-copy
-sub-copy c = search needs
+sub-write-pairs : tie.Need-sub-write-pairs
+sub-write-pairs c = search needs
 
-part-copy-start : tie.Need-part-copy-start
-part-copy-start c = search needs
+part-write-pairs-start : tie.Need-part-write-pairs-start
+part-write-pairs-start c = search needs
 
-part-copy-end : tie.Need-part-copy-end
-part-copy-end c = omega (arith, inside-at (c .before .before .before .before .before .before .before .before))
+part-write-pairs-end : tie.Need-part-write-pairs-end
+part-write-pairs-end c = omega (arith, inside-at (c .before .before .before .before .before .before .before .before))
 
-copy-requires : tie.Need-copy-requires
-copy-requires c κs = let space = fits-at (c .before .before .before) in simp (length-take, length-drop) (omega (arith, space .0))
+write-pairs-requires : tie.Need-write-pairs-requires
+write-pairs-requires c κs =
+    let at-found = c .before .before .before .before .before .before .before .before .before .before in
+    let inside = inside-at at-found in
+    pairs-room (at-found .find-ends .ensures) (inside .1) (inside .2) (fits-at (c .before .before .before) .0)
 
 write-breaks-requires : tie.Need-write-breaks-requires
 write-breaks-requires c κs =
@@ -166,16 +172,16 @@ same-length-4 c = search needs
 returns-3 : tie.Need-returns-3
 returns-3 c =
     let at-write = c .before .before .before .before .before .before in
-    let at-copy = at-write .before .before .before .before .before in
-    let at-room = at-copy .before .before .before .before .before in
+    let at-pairs = at-write .before .before .before .before .before in
+    let at-room = at-pairs .before .before .before .before .before in
     let at-found = at-room .before .before .before .before .before .before in
     breaks-written _ _ _ _ (admitted-at (at-found .before .before)) (at-found .find-ends .ensures) (inside-at at-found .1) (c .before .before .clear2 .ensures)
-    (passed _ (tried-at (at-room .before)) (at-room .match2 .keys1)) (at-copy .copy .ensures) (at-write .write-breaks .ensures)
+    (passed _ (tried-at (at-room .before)) (at-room .match2 .keys1)) (at-pairs .write-pairs .ensures) (at-write .write-breaks .ensures)
 
 pub icfl-with-breaks-spec : {M : Type 1} → statement M
 icfl-with-breaks-spec =
     tie.close
-    (tie.spec admit-requires enum-told enum-told-2 number-requires returns find-ends-requires sub-factors check-result-requires
-    mul-check-result check-result-requires-2 then-requires enum-told-3 enum-told-4 mul-clear clear-requires number-requires-2 same-length
-    returns-2 mul-copy sub-copy part-copy-start part-copy-end copy-requires write-breaks-requires mul-clear-2 clear-requires-2
+    (tie.spec admit-requires enum-told enum-told-2 number-requires returns find-ends-requires sub-factors mul-check-result check-result-requires
+    mul-check-result-2 check-result-requires-2 then-requires enum-told-3 enum-told-4 mul-clear clear-requires number-requires-2 same-length
+    returns-2 mul-write-pairs sub-write-pairs part-write-pairs-start part-write-pairs-end write-pairs-requires write-breaks-requires mul-clear-2 clear-requires-2
     same-length-2 same-length-3 same-length-4 returns-3)

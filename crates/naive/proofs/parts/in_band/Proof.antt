@@ -1,6 +1,6 @@
 -- Safe and ending: the loop's measure is what is left.
 use borrow.Author.Needs.{needs}
-use Prim.Native.Nat.{_-_}
+use Prim.Native.Nat.{_-_, _/_}
 use lib.ListN.{length}
 use Rattle.naive.proofs.parts.in_band.Statement.{statement}
 use Rattle.naive.proofs.parts.in_band.Tie as tie
@@ -9,7 +9,7 @@ abbrev Inv-loop : tie.InvT-loop
 Inv-loop ends digits count₀ k₀ count k = Unit {0}
 
 abbrev μ-loop : tie.MeasureT-loop
-μ-loop ends digits count₀ k₀ count k = length ends - k
+μ-loop ends digits count₀ k₀ count k = length ends / 2 - k
 
 pub in-band-spec : {M : Type 1} → statement M
 in-band-spec =

@@ -1,6 +1,6 @@
 -- Safe and ending: the loop's measure is what is left.
 use borrow.Author.Needs.{needs}
-use Prim.Native.Nat.{_-_}
+use Prim.Native.Nat.{_-_, _/_}
 use lib.ListN.{length}
 use Rattle.naive.proofs.parts.longest.Statement.{statement}
 use Rattle.naive.proofs.parts.longest.Tie as tie
@@ -9,7 +9,7 @@ abbrev Inv-loop : tie.InvT-loop
 Inv-loop ends most₀ k₀ most k = Unit {0}
 
 abbrev μ-loop : tie.MeasureT-loop
-μ-loop ends most₀ k₀ most k = length ends - k
+μ-loop ends most₀ k₀ most k = length ends / 2 - k
 
 pub longest-spec : {M : Type 1} → statement M
 longest-spec =

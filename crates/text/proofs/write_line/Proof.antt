@@ -3,14 +3,15 @@ use borrow.Author.Needs.{needs}
 use native.Mathlib.Omega.{arith}
 use Prim.Native.Nat.{_+_, _≤_}
 use lib.ListN.{length, length-set}
-use Rattle.text.specs.Text.{commaList}
+use mathlib.Core.List.{[], _∷_}
+use Rattle.text.specs.Text.{listBy}
 use Rattle.text.proofs.Stores.{wrote-long}
 use Rattle.text.proofs.Texts.{line-length, line-wrote}
-use Rattle.text.proofs.write_list_line.Statement.{statement}
-use Rattle.text.proofs.write_list_line.Tie as tie
+use Rattle.text.proofs.write_line.Statement.{statement}
+use Rattle.text.proofs.write_line.Tie as tie
 
-room-at : (c : tie.Start) → (let a = c .args in a .at + (length (a .key .now) + length (commaList (a .numbers .now)) + 2) ≤ length (a .out .now))
-room-at c = omega (arith, c .pre, line-length (c .args .key .now) (commaList (c .args .numbers .now)))
+room-at : (c : tie.Start) → (let a = c .args in a .at + (length (a .key .now) + length (listBy (a .first ∷ []) (a .second ∷ []) (a .numbers .now)) + 2) ≤ length (a .out .now))
+room-at c = omega (arith, c .pre, line-length (c .args .key .now) (listBy (c .args .first ∷ []) (c .args .second ∷ []) (c .args .numbers .now)))
 
 abbrev start : tie.After-write-bytes → tie.Start
 start c = c .before .before .before .before .before
@@ -30,7 +31,7 @@ write-list-requires c κs = record { inside = rw length-set (omega (arith, room-
 slice-write-out-2 : tie.Need-slice-write-out-2
 slice-write-out-2 c =
     let value = c .before .before in
-    omega (arith, room-at (start (value .before .before .before .before)), simp length-set at (value .write-list .kept .1 .0))
+    omega (arith, room-at (start (value .before .before .before .before)), simp length-set at (value .write-list .kept .1 .1 .1 .0))
 
 add-result : tie.Need-add-result
 add-result c = omega (arith, room-at (start (c .before .before .before .before .before .before)))
@@ -41,7 +42,7 @@ returns c = line-wrote (c .before .before .before .before .before .before .write
 same-length : tie.Need-same-length
 same-length c = wrote-long (returns c)
 
-pub write-list-line-spec : {M : Type 1} → statement M
-write-list-line-spec =
+pub write-line-spec : {M : Type 1} → statement M
+write-line-spec =
     tie.close
     (tie.spec write-bytes-requires slice-write-out add-write-list write-list-requires slice-write-out-2 add-result same-length returns)
