@@ -1,6 +1,7 @@
 //! METSROEB_PAD, 0 unless it is set: by how many bytes main.rs moves the code. METSROEB_EARLIER: the folder of the earlier archive that
 //! stands in the peer's place, if it is set. `has` is set to each call of the other side, to "marks" where it takes byte 255 for a mark,
-//! and to "common" where its comparison gives the number of equal bytes: an earlier crate may lack some of ours.
+//! to "common" where its comparison gives the number of equal bytes, and to "pairs" where its lists have a count beside each end: an
+//! earlier crate may lack some of ours.
 use std::env::var;
 use std::fs::read_to_string;
 
@@ -26,7 +27,9 @@ fn main() {
     if file("refusal.rs").contains("MARKED_RECORD") {
         println!("cargo::rustc-cfg=has=\"marks\"");
     }
-    if file("answers.rs").contains("pub struct Comparison") {
-        println!("cargo::rustc-cfg=has=\"common\"");
+    for (name, answer) in [("common", "pub struct Comparison "), ("pairs", "pub struct Factor ")] {
+        if file("answers.rs").contains(answer) {
+            println!("cargo::rustc-cfg=has=\"{name}\"");
+        }
     }
 }

@@ -4,8 +4,9 @@
  * factor of both cuts by itself, with 1 in the start table, and belongs to no repetition; each nonempty stretch between
  * neighbouring marks or the record's edges is cut as a record by itself, and has the repetitions that it has by itself.
  * The comparison takes 255 for the largest letter, the test refuses it.
- * Places count from 0; an end is the place just past the last byte. Every function returns a refusal number, 0 for a
- * result, or a struct that holds it.
+ * Places count from 0; an end is the place just past the last byte. A paired list has two entries for each factor: its
+ * end, and a count; icfl gives there how many anti-Lyndon factors, those of the strict cut, are inside. Every function
+ * returns a refusal number, 0 for a result, or a struct that holds it.
  *
  * The caller ensures, for every function:
  *   - every pointer is valid and not null, also where its length is 0, and aligned for its type;
@@ -21,11 +22,13 @@
  *   2  all         record_len is above 4,096
  *   3  test        work_len is below record_len
  *      icfl, icfl_breaks   work_len is below 3 * record_len
- *   4  icfl, icfl_breaks, cfl_in, lyndon_table, runs   a result buffer has fewer entries than the answer
+ *   4  icfl, icfl_breaks, cfl_in, lyndon_table, runs   a result buffer has fewer entries than the answer;
+ *                  two for each factor of icfl, five for each break, three for each repetition
  *   5  compare     first is not below end, or end is above record_len
  *   6  compare     start or other is below first, or not below end
- *   7  factor, summarize   ends is empty, begins with 0, does not rise strictly, or its last end is not record_len
- *   8  factor      number is not below ends_len
+ *   7  factor, summarize   pairs is empty or has an odd number of entries; its first end is 0, its ends do not rise
+ *                  strictly, or the last is not record_len; or a count is 0 or above its factor's length
+ *   8  factor      number is not below pairs_len / 2
  *   9  test        the record holds a mark
  *  10  icfl_batch  record_ends is empty, has more than 64 ends, falls somewhere, or its last end is not bytes_len;
  *                  before lines 1 to 4, which each record of the batch meets or passes by itself
@@ -47,7 +50,7 @@ extern "C" {
 #define METSROEB_MOST 4096       /* the most bytes of a record */
 #define METSROEB_MOST_RECORDS 64 /* the most records of a batch */
 
-/* What the factors that a list of ends marks come to. Beside a refusal all else is 0. */
+/* What the factors that a paired list marks come to. Beside a refusal all else is 0. */
 typedef struct {
     uint8_t refusal;
     uint16_t count;     /* number of factors */
@@ -56,7 +59,7 @@ typedef struct {
     uint16_t bands[13]; /* bands[k]: number of factors whose length has k + 1 binary digits */
 } metsroeb_summary;
 
-/* What icfl answers for a record of a batch: a refusal, or how many ends it wrote. */
+/* What icfl answers for a record of a batch: a refusal, or the number of its factors. */
 typedef struct {
     uint8_t refusal;
     uint16_t count; /* 0 beside a refusal */
@@ -76,14 +79,16 @@ typedef struct {
 uint8_t metsroeb_test(const uint8_t *record, size_t record_len, uint16_t *work, size_t work_len,
                       uint16_t *failing, uint16_t *prefix, uint16_t *border);
 
-/* The piece cut, ICFL: writes the ends of the factors to ends, from entry 0, and their number to *count. A mark is a
- * factor; a stretch is cut by itself, its ends in the record's places. record_len entries of ends are always enough.
+/* The piece cut, ICFL: writes two entries for each factor to pairs, from entry 0, its end and the number of anti-Lyndon
+ * factors inside, and the number of factors to *count. The counts add up to the number of factors of the strict cut. A
+ * mark is a factor, its count 1; a stretch is cut by itself, its ends in the record's places. 2 * record_len entries of
+ * pairs are always enough.
  * work: at least 3 * record_len entries; after a result and after refusal 4 the first 3 * record_len are 0.
  * Refusals 1, 2, 3, 4. */
 uint8_t metsroeb_icfl(const uint8_t *record, size_t record_len, uint16_t *work, size_t work_len,
-                      uint16_t *ends, size_t ends_len, uint16_t *count);
+                      uint16_t *pairs, size_t pairs_len, uint16_t *count);
 
-/* The piece cut with its breaks: writes ends and *count as icfl does, and to breaks, from entry 0 and from left to
+/* The piece cut with its breaks: writes pairs and *count as icfl does, and to breaks, from entry 0 and from left to
  * right, every break that the cut considered, their number to *break_count. A step of the cut begins where a stretch
  * does or at the break before it and tests the stretch from there on; if that fails, the break is where the test's p
  * ends. It fills five entries: this place; the place where the step began; |r|; then, for a break that was kept, the
@@ -91,22 +96,22 @@ uint8_t metsroeb_icfl(const uint8_t *record, size_t record_len, uint16_t *work, 
  * less the length of the factor that was joined to p. All places are the record's. The ends are the places that were
  * kept, and the ends of marks and of stretches, which have no break.
  * 5 * record_len entries of breaks are always enough; an inverse Lyndon record has no break and needs none.
- * work: as for icfl. Refusals 1, 2, 3, 4 for ends, 4 for breaks; after either 4 both are as they were. */
+ * work: as for icfl. Refusals 1, 2, 3, 4 for pairs, 4 for breaks; after either 4 both are as they were. */
 uint8_t metsroeb_icfl_breaks(const uint8_t *record, size_t record_len, uint16_t *work, size_t work_len,
-                             uint16_t *ends, size_t ends_len, uint16_t *breaks, size_t breaks_len,
+                             uint16_t *pairs, size_t pairs_len, uint16_t *breaks, size_t breaks_len,
                              uint16_t *count, uint16_t *break_count);
 
 /* The piece cut of a batch of up to 64 records that stand in bytes one after another; record_ends has the end of each
  * one there. Two equal neighbours, or a first end of 0, mean an empty record. Each record is cut as by icfl, with the
- * whole of work and with what is left of ends; its reply is icfl's. The ends of accepted records follow one another from
- * entry 0 without a gap, each counted from the first byte of its own record; a refused record uses no entry, and the
- * next one is still tried. bytes_len entries of ends are always enough.
+ * whole of work and with what is left of pairs; its reply is icfl's. The pairs of accepted records follow one another
+ * from entry 0 without a gap, their ends counted from the first byte of their own record; a refused record uses no
+ * entry, and the next one is still tried. 2 * bytes_len entries of pairs are always enough.
  * work: three times the bytes of the longest record that is to be cut. Zero afterwards are 3 * the bytes of the longest
  * record that was cut or refused by 4; other refusals change nothing in it.
  * Refusal 10, before any record: every reply is 0 then, and both buffers are as they were. In the replies: 1, 2, 3, 4. */
 metsroeb_batch metsroeb_icfl_batch(const uint8_t *bytes, size_t bytes_len, const uint32_t *record_ends,
-                                   size_t record_ends_len, uint16_t *work, size_t work_len, uint16_t *ends,
-                                   size_t ends_len);
+                                   size_t record_ends_len, uint16_t *work, size_t work_len, uint16_t *pairs,
+                                   size_t pairs_len);
 
 /* The strict cut, the Lyndon factorization in the inverse order (its factors are anti-Lyndon words): writes the ends
  * of the factors to ends, from entry 0, and their number to *count. A mark is a factor; a stretch is cut by itself, its
@@ -133,13 +138,13 @@ uint8_t metsroeb_runs(const uint8_t *record, size_t record_len, uint16_t *runs, 
 uint8_t metsroeb_compare(const uint8_t *record, size_t record_len, size_t first, size_t end, size_t start, size_t other,
                          int8_t *sign, uint16_t *common);
 
-/* The reader: factor number, from 0, of any list of ends that line 7 accepts. Its bytes are
- * record[*first] to record[*end - 1]. Refusals 1, 2, 7, 8. */
-uint8_t metsroeb_factor(const uint8_t *record, size_t record_len, const uint16_t *ends, size_t ends_len, size_t number,
-                        uint16_t *first, uint16_t *end);
+/* The reader: factor number, from 0, of any paired list that line 7 accepts; its counts need not be the strict cut's.
+ * Its bytes are record[*first] to record[*end - 1]. Refusals 1, 2, 7, 8. */
+uint8_t metsroeb_factor(const uint8_t *record, size_t record_len, const uint16_t *pairs, size_t pairs_len,
+                        size_t number, uint16_t *first, uint16_t *end);
 
-/* The summary of the factors that any list of ends marks that line 7 accepts. Refusals 1, 2, 7, in the field. */
-metsroeb_summary metsroeb_summarize(const uint8_t *record, size_t record_len, const uint16_t *ends, size_t ends_len);
+/* The summary of the factors that any paired list marks that line 7 accepts. Refusals 1, 2, 7, in the field. */
+metsroeb_summary metsroeb_summarize(const uint8_t *record, size_t record_len, const uint16_t *pairs, size_t pairs_len);
 
 #ifdef __cplusplus
 }

@@ -6,6 +6,8 @@ use crate::inputs::Make;
 pub struct Case {
     pub record: Vec<u8>,
     pub strict_ends: Vec<u16>,
+    /// The same, each with a count: what the reader and the summary take.
+    pub strict_pairs: Vec<u16>,
     /// How many entries its repetitions fill.
     pub run_entries: usize,
     /// The starts that are compared, in the range from 0 to `end`.
@@ -40,6 +42,7 @@ impl Case {
         let run_entries = 3 * metsroeb_tests::peer::runs(&record, &mut vec![0; 3 * n]).unwrap().len();
         Case {
             batches: [64, 256, n].map(|length| Batch::new(make, n, number, length)),
+            strict_pairs: strict_ends.iter().flat_map(|&end| [end, 1]).collect(),
             strict_ends,
             run_entries,
             starts,
@@ -52,6 +55,7 @@ impl Case {
 /// What the calls fill, the same for all records of a length.
 pub struct Buffers {
     pub work: Vec<u16>,
+    pub pairs: Vec<u16>,
     pub result: Vec<u16>,
     pub breaks: Vec<u16>,
     pub runs: Vec<u16>,
@@ -60,6 +64,7 @@ pub struct Buffers {
 impl Buffers {
     /// As large as a record of `n` bytes can need them.
     pub fn new(n: usize) -> Buffers {
-        Buffers { work: vec![0; 3 * n], result: vec![0; n], breaks: vec![0; 5 * n], runs: vec![0; 3 * n] }
+        let entries = |each: usize| vec![0; each * n];
+        Buffers { work: entries(3), pairs: entries(2), result: entries(1), breaks: entries(5), runs: entries(3) }
     }
 }

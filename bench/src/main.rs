@@ -28,15 +28,16 @@ const LENGTHS: [usize; 4] = [512, 1024, 2048, 4096];
 const ROUNDS: usize = 25;
 const BATCH_NS: f64 = 50_000.0;
 
-/// Reads the answers of a batch: how many ends there are in all.
-fn count_ends<'a, E>(replies: impl Iterator<Item = Result<&'a [u16], E>>) -> usize {
+/// Reads the answers of a batch: how many entries there are in all.
+fn count_entries<'a, E>(replies: impl Iterator<Item = Result<&'a [u16], E>>) -> usize {
     replies.flatten().map(<[u16]>::len).sum()
 }
 
 type Call = fn(&Case, &mut Buffers);
 
-/// The timed calls of a module that has the crate's functions, by name. `numbers` reads a comparison; it widens the number, since the
-/// stack frame of a smaller answer ends with a load that waits for the stores of its parts: 3 nanoseconds, half of a short call.
+/// The timed calls of a module that has the crate's functions, by name. `list` is the case's list that its reader and summary take.
+/// `numbers` reads a comparison; it widens the number, since the stack frame of a smaller answer ends with a load that waits for the
+/// stores of its parts: 3 nanoseconds, half of a short call.
 macro_rules! calls_of {
     (comparison $of:ident, $numbers:expr) => {
         |case, _| {
@@ -54,23 +55,23 @@ macro_rules! calls_of {
         }
     };
     (batch $of:ident, $batch:expr, $lent:expr) => {{
-        let found = $of::icfl_batch(&$batch.bytes, &$batch.record_ends, &mut $lent.work, &mut $lent.result);
-        black_box(found.map(|batch| count_ends(batch.iter()))).ok();
+        let found = $of::icfl_batch(&$batch.bytes, &$batch.record_ends, &mut $lent.work, &mut $lent.pairs);
+        black_box(found.map(|batch| count_entries(batch.iter()))).ok();
     }};
-    ($of:ident) => {
-        calls_of!($of, |found| (found.order, usize::from(found.common)))
+    ($of:ident, $list:ident) => {
+        calls_of!($of, $list, |found| (found.order, usize::from(found.common)))
     };
-    ($of:ident, $numbers:expr) => {
+    ($of:ident, $list:ident, $numbers:expr) => {
         [
             ("`metsroeb_test`", |case, lent| {
                 black_box($of::find_extension(&case.record, &mut lent.work)).ok();
             }),
             ("`metsroeb_icfl`", |case, lent| {
-                black_box($of::icfl(&case.record, &mut lent.work, &mut lent.result)).ok();
+                black_box($of::icfl(&case.record, &mut lent.work, &mut lent.pairs)).ok();
             }),
             #[cfg(has = "icfl_with_breaks")]
             ("`metsroeb_icfl_breaks`", |case, lent| {
-                black_box($of::icfl_with_breaks(&case.record, &mut lent.work, &mut lent.result, &mut lent.breaks)).ok();
+                black_box($of::icfl_with_breaks(&case.record, &mut lent.work, &mut lent.pairs, &mut lent.breaks)).ok();
             }),
             #[cfg(has = "icfl_batch")]
             ("`metsroeb_icfl_batch`, records of 64 bytes", |case, lent| calls_of!(batch $of, case.batches[0], lent)),
@@ -93,13 +94,13 @@ macro_rules! calls_of {
             (COUNTED_RUNS, calls_of!(counted runs $of)),
             (SUFFIXES, calls_of!(comparison $of, $numbers)),
             ("`metsroeb_factor`, the last of the strict cut", |case, _| {
-                black_box($of::factor_at(&case.record, &case.strict_ends, case.strict_ends.len() - 1)).ok();
+                black_box($of::factor_at(&case.record, &case.$list, case.strict_ends.len() - 1)).ok();
             }),
             ("`metsroeb_summarize`, of the strict cut, until count, longest and from are read", |case, _| {
-                black_box($of::summarize(&case.record, &case.strict_ends).map(|all| (all.count, all.longest, all.from))).ok();
+                black_box($of::summarize(&case.record, &case.$list).map(|all| (all.count, all.longest, all.from))).ok();
             }),
             ("`metsroeb_summarize`, of the strict cut, until the bands are read too", |case, _| {
-                let all = $of::summarize(&case.record, &case.strict_ends);
+                let all = $of::summarize(&case.record, &case.$list);
                 black_box(all.map(|all| (all.count, all.longest, all.from, all.bands.iter().sum::<u16>()))).ok();
             }),
         ]
@@ -110,11 +111,13 @@ const RUNS: &str = "`metsroeb_runs`, 3n result entries: one pass";
 const COUNTED_RUNS: &str = "`metsroeb_runs`, just enough result entries: counted first if fewer than 3n - 3";
 const SUFFIXES: &str = "`metsroeb_compare`, the record with its suffix that agrees longest";
 
-const VERIFIED: &[(&str, Call)] = &calls_of!(metsroeb);
-#[cfg(has = "common")]
-const OTHER: &[(&str, Call)] = &calls_of!(other);
+const VERIFIED: &[(&str, Call)] = &calls_of!(metsroeb, strict_pairs);
+#[cfg(has = "pairs")]
+const OTHER: &[(&str, Call)] = &calls_of!(other, strict_pairs);
+#[cfg(all(has = "common", not(has = "pairs")))]
+const OTHER: &[(&str, Call)] = &calls_of!(other, strict_ends);
 #[cfg(not(has = "common"))]
-const OTHER: &[(&str, Call)] = &calls_of!(other, |order| order);
+const OTHER: &[(&str, Call)] = &calls_of!(other, strict_ends, |order| order);
 const BY_EIGHTS: Call = calls_of!(comparison by_eights, |found| (found.order, usize::from(found.common)));
 const RUNS_BY_EIGHTS: Call = calls_of!(runs by_eights);
 

@@ -1,6 +1,7 @@
 //! Answers that are more than a number or a slice.
 use super::{raw, Refusal};
 use core::cmp::Ordering;
+use core::marker::PhantomData;
 use core::slice;
 
 /// What [`find_extension`](crate::find_extension) finds.
@@ -17,6 +18,23 @@ pub enum Extension {
         /// |r|, for the shortest r with which that prefix is r a u r b, a < b.
         border: usize,
     },
+}
+
+/// A factor of the piece cut, as [`icfl`](crate::icfl) writes it, or of any other paired list.
+#[derive(Clone, Copy, Debug, PartialEq, Eq)]
+pub struct Factor {
+    /// Its end.
+    pub end: u16,
+    /// How many anti-Lyndon factors are inside, those of the strict cut.
+    pub anti_lyndon: u16,
+}
+
+/// The two entries of a factor, as [`metsroeb_icfl`](crate::raw::metsroeb_icfl) writes them.
+impl From<[u16; 2]> for Factor {
+    #[inline]
+    fn from([end, anti_lyndon]: [u16; 2]) -> Factor {
+        Factor { end, anti_lyndon }
+    }
 }
 
 /// A break that the piece cut considered. Of the stretch from `begun` on, the shortest prefix that is not inverse Lyndon is
@@ -54,34 +72,6 @@ impl From<[u16; 5]> for Break {
     }
 }
 
-/// The breaks of a record, from left to right, read from the entries that [`icfl_with_breaks`](crate::icfl_with_breaks) filled.
-#[derive(Clone, Debug)]
-pub struct Breaks<'a>(slice::Iter<'a, [u16; 5]>);
-
-impl<'a> Breaks<'a> {
-    /// The breaks in the entries that [`metsroeb_icfl_breaks`](crate::raw::metsroeb_icfl_breaks) filled.
-    #[inline]
-    pub fn read(entries: &'a [u16]) -> Breaks<'a> {
-        Breaks(entries.as_chunks().0.iter())
-    }
-}
-
-impl Iterator for Breaks<'_> {
-    type Item = Break;
-
-    #[inline]
-    fn next(&mut self) -> Option<Break> {
-        self.0.next().map(|&entries| entries.into())
-    }
-
-    #[inline]
-    fn size_hint(&self) -> (usize, Option<usize>) {
-        self.0.size_hint()
-    }
-}
-
-impl ExactSizeIterator for Breaks<'_> {}
-
 /// A maximal repetition: a part of a stretch that has the period, and with a byte more on either side would not have it. A record
 /// without marks is one stretch.
 #[derive(Clone, Copy, Debug, PartialEq, Eq)]
@@ -102,49 +92,61 @@ impl From<[u16; 3]> for Run {
     }
 }
 
-/// The maximal repetitions of a record, by first place and then by period, read from the entries that [`runs`](crate::runs) filled.
+/// Answers that fill `N` entries each, read one after another from the entries that a call filled.
 #[derive(Clone, Debug)]
-pub struct Runs<'a>(slice::Iter<'a, [u16; 3]>);
+pub struct Entries<'a, T, const N: usize> {
+    left: slice::Iter<'a, [u16; N]>,
+    answers: PhantomData<T>,
+}
 
-impl<'a> Runs<'a> {
-    /// The repetitions in the entries that [`metsroeb_runs`](crate::raw::metsroeb_runs) filled.
+/// The factors of a paired list, from left to right: of one that [`icfl`](crate::icfl) gives, or of any other.
+pub type Factors<'a> = Entries<'a, Factor, 2>;
+
+/// The breaks of a record, from left to right, as [`icfl_with_breaks`](crate::icfl_with_breaks) gives them.
+pub type Breaks<'a> = Entries<'a, Break, 5>;
+
+/// The maximal repetitions of a record, by first place and then by period, as [`runs`](crate::runs) gives them.
+pub type Runs<'a> = Entries<'a, Run, 3>;
+
+impl<'a, T, const N: usize> Entries<'a, T, N> {
+    /// The answers in these entries. Fewer than `N` at their end are none.
     #[inline]
-    pub fn read(entries: &'a [u16]) -> Runs<'a> {
-        Runs(entries.as_chunks().0.iter())
+    pub fn read(entries: &'a [u16]) -> Entries<'a, T, N> {
+        Entries { left: entries.as_chunks().0.iter(), answers: PhantomData }
     }
 }
 
-impl Iterator for Runs<'_> {
-    type Item = Run;
+impl<T: From<[u16; N]>, const N: usize> Iterator for Entries<'_, T, N> {
+    type Item = T;
 
     #[inline]
-    fn next(&mut self) -> Option<Run> {
-        self.0.next().map(|&entries| entries.into())
+    fn next(&mut self) -> Option<T> {
+        self.left.next().map(|&entries| entries.into())
     }
 
     #[inline]
     fn size_hint(&self) -> (usize, Option<usize>) {
-        self.0.size_hint()
+        self.left.size_hint()
     }
 }
 
-impl ExactSizeIterator for Runs<'_> {}
+impl<T: From<[u16; N]>, const N: usize> ExactSizeIterator for Entries<'_, T, N> {}
 
 /// What the piece cut answers for each record of a batch, in their order, as [`icfl_batch`](crate::icfl_batch) finds it.
 #[derive(Clone, Debug)]
 pub struct Batch<'a> {
     answer: raw::Batch,
     records: usize,
-    ends: &'a [u16],
+    pairs: &'a [u16],
 }
 
 impl<'a> Batch<'a> {
     /// What [`metsroeb_icfl_batch`](crate::raw::metsroeb_icfl_batch) returned for so many records, with the result buffer that it
     /// filled.
     #[inline]
-    pub fn read(answer: raw::Batch, records: usize, ends: &'a [u16]) -> Result<Batch<'a>, Refusal> {
+    pub fn read(answer: raw::Batch, records: usize, pairs: &'a [u16]) -> Result<Batch<'a>, Refusal> {
         Refusal::check(answer.refusal)?;
-        Ok(Batch { answer, records, ends })
+        Ok(Batch { answer, records, pairs })
     }
 
     /// How many records the batch has.
@@ -160,14 +162,14 @@ impl<'a> Batch<'a> {
         self.iter().nth(number)
     }
 
-    /// For each record the ends of its factors, within the record, or its refusal.
+    /// For each record the pairs of its factors, as [`icfl`](crate::icfl) gives them, or its refusal.
     #[inline]
     pub fn iter(&self) -> impl ExactSizeIterator<Item = Result<&'a [u16], Refusal>> + '_ {
-        let mut left = self.ends;
+        let mut left = self.pairs;
         self.answer.replies.iter().take(self.records).map(move |reply| {
-            let (ends, rest) = left.split_at(reply.count.into());
+            let (pairs, rest) = left.split_at(2 * usize::from(reply.count));
             left = rest;
-            Refusal::check(reply.refusal).map(|()| ends)
+            Refusal::check(reply.refusal).map(|()| pairs)
         })
     }
 }
@@ -181,7 +183,7 @@ pub struct Comparison {
     pub common: u16,
 }
 
-/// What the factors that a list of ends marks come to.
+/// What the factors that a paired list marks come to.
 #[derive(Clone, Copy, Debug, PartialEq, Eq)]
 pub struct Summary {
     /// Number of factors.

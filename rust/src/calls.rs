@@ -35,26 +35,29 @@ pub fn find_extension(record: &[u8], work: &mut [u16]) -> Result<Extension, Refu
     })
 }
 
-/// The piece cut, ICFL: the ends of the factors, which are the part of `ends` that was filled, from its first entry on. A mark, the
-/// byte 255, is a factor of its own; each nonempty stretch between marks is cut as a record by itself.
+/// The piece cut, ICFL: the pairs of the factors, which are the part of `pairs` that was filled, from its first entry on. Each
+/// [`Factor`](crate::Factor) fills two entries: its end, and how many anti-Lyndon factors are inside, those of [`cfl_in`]. A
+/// mark, the byte 255, is a factor of its own, with count 1; each nonempty stretch between marks is cut as a record by itself.
 ///
-/// As many entries of `ends` as the record has bytes are always enough. `work` needs three times as many; after a result,
+/// Twice as many entries of `pairs` as the record has bytes are always enough. `work` needs three for each byte; after a result,
 /// and after [`SHORT_RESULT`](Refusal::SHORT_RESULT), these are 0.
 ///
 /// Refusals: [`EMPTY_RECORD`](Refusal::EMPTY_RECORD), [`LONG_RECORD`](Refusal::LONG_RECORD),
 /// [`SHORT_WORK`](Refusal::SHORT_WORK), [`SHORT_RESULT`](Refusal::SHORT_RESULT).
 ///
 /// ```
-/// use metsroeb::{icfl, Refusal};
+/// use metsroeb::{icfl, Factor, Factors, Refusal};
 ///
-/// let (mut work, mut ends) = ([0; 27], [0; 2]);
-/// assert_eq!(icfl(b"cbabacbac", &mut work, &mut ends)?, [5, 9]);
-/// assert_eq!(icfl(b"cbabacbac", &mut work, &mut ends[..1]), Err(Refusal::SHORT_RESULT));
-/// assert_eq!(icfl(b"ba\xffba", &mut work, &mut [0; 5])?, [2, 3, 5]);
+/// let (mut work, mut pairs) = ([0; 27], [0; 4]);
+/// let found = icfl(b"cbabacbac", &mut work, &mut pairs)?;
+/// assert_eq!(found, [5, 1, 9, 2]);
+/// assert!(Factors::read(found).eq([Factor { end: 5, anti_lyndon: 1 }, Factor { end: 9, anti_lyndon: 2 }]));
+/// assert_eq!(icfl(b"cbabacbac", &mut work, &mut pairs[..3]), Err(Refusal::SHORT_RESULT));
+/// assert_eq!(icfl(b"ba\xffba", &mut work, &mut [0; 10])?, [2, 1, 3, 1, 5, 1]);
 /// # Ok::<(), Refusal>(())
 /// ```
 #[inline]
-pub fn icfl<'a>(record: &[u8], work: &mut [u16], ends: &'a mut [u16]) -> Result<&'a [u16], Refusal> {
+pub fn icfl<'a>(record: &[u8], work: &mut [u16], pairs: &'a mut [u16]) -> Result<&'a [u16], Refusal> {
     let mut count = 0;
     Refusal::check(unsafe {
         raw::metsroeb_icfl(
@@ -62,21 +65,21 @@ pub fn icfl<'a>(record: &[u8], work: &mut [u16], ends: &'a mut [u16]) -> Result<
             record.len(),
             work.as_mut_ptr(),
             work.len(),
-            ends.as_mut_ptr(),
-            ends.len(),
+            pairs.as_mut_ptr(),
+            pairs.len(),
             &mut count,
         )
     })?;
-    Ok(&ends[..usize::from(count)])
+    Ok(&pairs[..2 * usize::from(count)])
 }
 
-/// The piece cut with its breaks: the ends of the factors, as [`icfl`] gives them, and every [`Break`](crate::Break) that the cut
+/// The piece cut with its breaks: the pairs of the factors, as [`icfl`] gives them, and every [`Break`](crate::Break) that the cut
 /// considered, stretch by stretch from left to right, in the record's places. Marks and the last factors of stretches end
 /// without a break: the ends are theirs, and the places of the breaks that were kept.
 ///
 /// A break fills five entries of `breaks`. Five times as many as the record has bytes are always enough, and an inverse Lyndon
-/// record, which has no break, needs none. `ends` and `work` are as for [`icfl`]; after
-/// [`SHORT_RESULT`](Refusal::SHORT_RESULT), of either, `ends` and `breaks` are as they were.
+/// record, which has no break, needs none. `pairs` and `work` are as for [`icfl`]; after
+/// [`SHORT_RESULT`](Refusal::SHORT_RESULT), of either, `pairs` and `breaks` are as they were.
 ///
 /// Refusals: [`EMPTY_RECORD`](Refusal::EMPTY_RECORD), [`LONG_RECORD`](Refusal::LONG_RECORD),
 /// [`SHORT_WORK`](Refusal::SHORT_WORK), [`SHORT_RESULT`](Refusal::SHORT_RESULT).
@@ -85,21 +88,21 @@ pub fn icfl<'a>(record: &[u8], work: &mut [u16], ends: &'a mut [u16]) -> Result<
 /// use metsroeb::{icfl_with_breaks, Break, Fate, Refusal};
 ///
 /// let record = b"cbabacaacbabacbac";
-/// let (mut work, mut ends, mut breaks) = ([0; 3 * 17], [0; 17], [0; 5 * 17]);
-/// let (ends, breaks) = icfl_with_breaks(record, &mut work, &mut ends, &mut breaks)?;
-/// assert_eq!(ends, [13, 17]);
+/// let (mut work, mut pairs, mut breaks) = ([0; 3 * 17], [0; 2 * 17], [0; 5 * 17]);
+/// let (pairs, breaks) = icfl_with_breaks(record, &mut work, &mut pairs, &mut breaks)?;
+/// assert_eq!(pairs, [13, 2, 17, 2]);
 /// assert!(breaks.eq([
 ///     Break { place: 8, begun: 0, border: 6, fate: Fate::Joined(1) },
 ///     Break { place: 13, begun: 8, border: 3, fate: Fate::Kept(b'b', b'c') },
 /// ]));
-/// assert_eq!(icfl_with_breaks(record, &mut work, &mut [0; 2], &mut [0; 9]).err(), Some(Refusal::SHORT_RESULT));
+/// assert_eq!(icfl_with_breaks(record, &mut work, &mut [0; 4], &mut [0; 9]).err(), Some(Refusal::SHORT_RESULT));
 /// # Ok::<(), Refusal>(())
 /// ```
 #[inline]
 pub fn icfl_with_breaks<'a>(
     record: &[u8],
     work: &mut [u16],
-    ends: &'a mut [u16],
+    pairs: &'a mut [u16],
     breaks: &'a mut [u16],
 ) -> Result<(&'a [u16], Breaks<'a>), Refusal> {
     let (mut count, mut break_count) = (0, 0);
@@ -109,23 +112,23 @@ pub fn icfl_with_breaks<'a>(
             record.len(),
             work.as_mut_ptr(),
             work.len(),
-            ends.as_mut_ptr(),
-            ends.len(),
+            pairs.as_mut_ptr(),
+            pairs.len(),
             breaks.as_mut_ptr(),
             breaks.len(),
             &mut count,
             &mut break_count,
         )
     })?;
-    Ok((&ends[..usize::from(count)], Breaks::read(&breaks[..5 * usize::from(break_count)])))
+    Ok((&pairs[..2 * usize::from(count)], Breaks::read(&breaks[..5 * usize::from(break_count)])))
 }
 
 /// The piece cut of a batch of up to [`MOST_RECORDS`](crate::MOST_RECORDS) records, which stand in `bytes` one after another;
 /// `record_ends` has the end of each one there. Two equal neighbours, or a first end of 0, mean an empty record.
 ///
-/// Each record is cut as by [`icfl`], with all of `work` and with what is left of `ends`, and is answered as there; a refused
-/// record uses no entry of `ends`, and the next one is still tried. The ends of a record are counted from its own first byte. As
-/// many entries of `ends` as there are bytes are always enough. `work` needs three times the bytes of the longest record;
+/// Each record is cut as by [`icfl`], with all of `work` and with what is left of `pairs`, and is answered as there; a refused
+/// record uses no entry of `pairs`, and the next one is still tried. The ends of a record are counted from its own first byte.
+/// Twice as many entries of `pairs` as there are bytes are always enough. `work` needs three times the bytes of the longest record;
 /// afterwards its first entries are 0, three for each byte of the longest record that was cut or refused by
 /// [`SHORT_RESULT`](Refusal::SHORT_RESULT).
 ///
@@ -134,22 +137,23 @@ pub fn icfl_with_breaks<'a>(
 /// [`SHORT_RESULT`](Refusal::SHORT_RESULT).
 ///
 /// ```
-/// use metsroeb::{icfl_batch, Refusal};
+/// use metsroeb::{icfl_batch, Factors, Refusal};
 ///
-/// let (mut work, mut ends) = ([0; 27], [0; 3]);
+/// let (mut work, mut pairs) = ([0; 27], [0; 6]);
 /// // cbabacbac, an empty record, abc, ba
-/// let batch = icfl_batch(b"cbabacbacabcba", &[9, 9, 12, 14], &mut work, &mut ends)?;
+/// let batch = icfl_batch(b"cbabacbacabcba", &[9, 9, 12, 14], &mut work, &mut pairs)?;
 /// assert_eq!(batch.len(), 4);
-/// assert_eq!(batch.get(0), Some(Ok(&[5, 9][..])));
+/// assert_eq!(batch.get(0), Some(Ok(&[5, 1, 9, 2][..])));
 /// assert_eq!(batch.get(1), Some(Err(Refusal::EMPTY_RECORD)));
-/// assert_eq!(batch.get(2), Some(Err(Refusal::SHORT_RESULT))); // three ends, and one entry is left
-/// assert_eq!(batch.get(3), Some(Ok(&[2][..])));
-/// assert_eq!(ends, [5, 9, 2]);
-/// assert_eq!(icfl_batch(b"cbabacbac", &[5, 4, 9], &mut work, &mut ends).err(), Some(Refusal::BAD_RECORD_ENDS));
+/// assert_eq!(batch.get(2), Some(Err(Refusal::SHORT_RESULT))); // three factors, and two entries are left
+/// assert_eq!(batch.get(3), Some(Ok(&[2, 1][..])));
+/// assert_eq!(batch.iter().flatten().flat_map(Factors::read).count(), 3);
+/// assert_eq!(pairs, [5, 1, 9, 2, 2, 1]);
+/// assert_eq!(icfl_batch(b"cbabacbac", &[5, 4, 9], &mut work, &mut pairs).err(), Some(Refusal::BAD_RECORD_ENDS));
 /// # Ok::<(), Refusal>(())
 /// ```
 #[inline]
-pub fn icfl_batch<'a>(bytes: &[u8], record_ends: &[u32], work: &mut [u16], ends: &'a mut [u16]) -> Result<Batch<'a>, Refusal> {
+pub fn icfl_batch<'a>(bytes: &[u8], record_ends: &[u32], work: &mut [u16], pairs: &'a mut [u16]) -> Result<Batch<'a>, Refusal> {
     let answer = unsafe {
         raw::metsroeb_icfl_batch(
             bytes.as_ptr(),
@@ -158,11 +162,11 @@ pub fn icfl_batch<'a>(bytes: &[u8], record_ends: &[u32], work: &mut [u16], ends:
             record_ends.len(),
             work.as_mut_ptr(),
             work.len(),
-            ends.as_mut_ptr(),
-            ends.len(),
+            pairs.as_mut_ptr(),
+            pairs.len(),
         )
     };
-    Batch::read(answer, record_ends.len(), ends)
+    Batch::read(answer, record_ends.len(), pairs)
 }
 
 /// The strict cut, the Lyndon factorization in the inverse order: the ends of its factors, which are anti-Lyndon words. They
@@ -277,45 +281,47 @@ pub fn compare_suffixes(record: &[u8], first: usize, end: usize, start: usize, o
     Ok(Comparison { order: sign.cmp(&0), common })
 }
 
-/// The reader: factor `number`, from 0, of those that the list of ends marks. It is a part of the record itself, not a copy.
-/// The list need not be the piece cut.
+/// The reader: factor `number`, from 0, of those that the paired list marks. It is a part of the record itself, not a copy.
+/// The list need not be the piece cut, and its counts need not be those of the strict cut.
 ///
 /// Refusals: [`EMPTY_RECORD`](Refusal::EMPTY_RECORD), [`LONG_RECORD`](Refusal::LONG_RECORD),
-/// [`BAD_ENDS`](Refusal::BAD_ENDS), [`BAD_NUMBER`](Refusal::BAD_NUMBER).
+/// [`BAD_PAIRS`](Refusal::BAD_PAIRS), [`BAD_NUMBER`](Refusal::BAD_NUMBER).
 ///
 /// ```
-/// use metsroeb::{factor_at, Refusal};
+/// use metsroeb::{factor_at, Factors, Refusal};
 ///
-/// assert_eq!(factor_at(b"cbabacbac", &[5, 9], 1), Ok(&b"cbac"[..]));
-/// assert_eq!(factor_at(b"cbabacbac", &[5, 9], 2), Err(Refusal::BAD_NUMBER));
+/// let (record, pairs) = (b"cbabacbac", [5, 1, 9, 2]);
+/// assert_eq!(factor_at(record, &pairs, 1), Ok(&b"cbac"[..]));
+/// assert_eq!(factor_at(record, &pairs, Factors::read(&pairs).len()), Err(Refusal::BAD_NUMBER));
+/// assert_eq!(factor_at(record, &[5, 9], 1), Err(Refusal::BAD_PAIRS)); // ends without counts
 /// ```
 #[inline]
-pub fn factor_at<'a>(record: &'a [u8], ends: &[u16], number: usize) -> Result<&'a [u8], Refusal> {
+pub fn factor_at<'a>(record: &'a [u8], pairs: &[u16], number: usize) -> Result<&'a [u8], Refusal> {
     let (mut first, mut end) = (0, 0);
     Refusal::check(unsafe {
-        raw::metsroeb_factor(record.as_ptr(), record.len(), ends.as_ptr(), ends.len(), number, &mut first, &mut end)
+        raw::metsroeb_factor(record.as_ptr(), record.len(), pairs.as_ptr(), pairs.len(), number, &mut first, &mut end)
     })?;
     Ok(&record[usize::from(first)..usize::from(end)])
 }
 
-/// The summary of the factors that the list of ends marks. The list need not be the piece cut. Of equally long factors the latest
-/// is named.
+/// The summary of the factors that the paired list marks. The list need not be the piece cut, and its counts need not be those
+/// of the strict cut. Of equally long factors the latest is named.
 ///
 /// Refusals: [`EMPTY_RECORD`](Refusal::EMPTY_RECORD), [`LONG_RECORD`](Refusal::LONG_RECORD),
-/// [`BAD_ENDS`](Refusal::BAD_ENDS).
+/// [`BAD_PAIRS`](Refusal::BAD_PAIRS).
 ///
 /// ```
-/// let summary = metsroeb::summarize(b"cbabacbac", &[5, 9])?;
+/// let summary = metsroeb::summarize(b"cbabacbac", &[5, 1, 9, 2])?;
 /// assert_eq!((summary.count, summary.longest, summary.from), (2, 5, 0));
 /// assert_eq!(summary.bands, [0, 0, 2, 0, 0, 0, 0, 0, 0, 0, 0, 0, 0]); // both lengths, 5 and 4, have three binary digits
-/// let summary = metsroeb::summarize(b"cbabacbac", &[4, 8, 9])?;
+/// let summary = metsroeb::summarize(b"cbabacbac", &[4, 1, 8, 1, 9, 1])?;
 /// assert_eq!((summary.longest, summary.from), (4, 4));
 /// # Ok::<(), metsroeb::Refusal>(())
 /// ```
 #[inline]
-pub fn summarize(record: &[u8], ends: &[u16]) -> Result<Summary, Refusal> {
+pub fn summarize(record: &[u8], pairs: &[u16]) -> Result<Summary, Refusal> {
     let raw::Summary { refusal, count, longest, from, bands } =
-        unsafe { raw::metsroeb_summarize(record.as_ptr(), record.len(), ends.as_ptr(), ends.len()) };
+        unsafe { raw::metsroeb_summarize(record.as_ptr(), record.len(), pairs.as_ptr(), pairs.len()) };
     Refusal::check(refusal)?;
     Ok(Summary { count, longest, from, bands })
 }

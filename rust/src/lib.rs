@@ -5,16 +5,17 @@
 //! A record is a word of 1 to [`MOST`] bytes. The byte 255 is a mark: a factor of every cut by itself, with 1 in the start table, and
 //! in no repetition. Each nonempty stretch between neighbouring marks or the record's edges is cut as a record by itself, and has the
 //! repetitions that it has by itself. [`compare_suffixes`] takes 255 for the largest letter, [`find_extension`] refuses it; all other
-//! values are ordinary letters. Places count from 0; an end is the place just past the last byte. No call has a precondition: it
-//! gives a result or a [`Refusal`], and never panics.
+//! values are ordinary letters. Places count from 0; an end is the place just past the last byte. A paired list has two entries
+//! for each factor, its end and a count; [`Factors::read`] reads it. No call has a precondition: it gives a result or a
+//! [`Refusal`], and never panics.
 //!
 //! ```
 //! fn main() -> Result<(), metsroeb::Refusal> {
 //!     let record = b"cbabacbac";
-//!     let (mut work, mut ends) = ([0; 27], [0; 9]);
-//!     let ends = metsroeb::icfl(record, &mut work, &mut ends)?;
-//!     assert_eq!(ends, [5, 9]);
-//!     assert_eq!(metsroeb::factor_at(record, ends, 1)?, b"cbac");
+//!     let (mut work, mut pairs) = ([0; 3 * 9], [0; 2 * 9]);
+//!     let pairs = metsroeb::icfl(record, &mut work, &mut pairs)?;
+//!     assert_eq!(pairs, [5, 1, 9, 2]);
+//!     assert_eq!(metsroeb::factor_at(record, pairs, 1)?, b"cbac");
 //!     Ok(())
 //! }
 //! ```
@@ -30,7 +31,7 @@ mod calls;
 pub mod raw;
 mod refusal;
 
-pub use answers::{Batch, Break, Breaks, Comparison, Extension, Fate, Run, Runs, Summary};
+pub use answers::{Batch, Break, Breaks, Comparison, Entries, Extension, Factor, Factors, Fate, Run, Runs, Summary};
 pub use calls::{
     cfl_in, compare_suffixes, factor_at, find_extension, icfl, icfl_batch, icfl_with_breaks, lyndon_table, runs, summarize,
 };

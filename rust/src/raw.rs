@@ -6,7 +6,7 @@
 //! For every function: every pointer is valid and not null, also where its length is 0, and aligned; every length is true;
 //! what can be written overlaps no other argument. Nothing else is asked.
 
-/// `metsroeb_summary`: what the factors that a list of ends marks come to. Beside a refusal all else is 0.
+/// `metsroeb_summary`: what the factors that a paired list marks come to. Beside a refusal all else is 0.
 #[repr(C)]
 #[derive(Clone, Copy, Debug, PartialEq, Eq)]
 pub struct Summary {
@@ -55,14 +55,15 @@ extern "C" {
         border: *mut u16,
     ) -> u8;
 
-    /// The piece cut: see [`icfl`](crate::icfl).
+    /// The piece cut: see [`icfl`](crate::icfl). [`Factors::read`](crate::Factors::read) reads the entries of the factors, two
+    /// for each.
     pub fn metsroeb_icfl(
         record: *const u8,
         record_len: usize,
         work: *mut u16,
         work_len: usize,
-        ends: *mut u16,
-        ends_len: usize,
+        pairs: *mut u16,
+        pairs_len: usize,
         count: *mut u16,
     ) -> u8;
 
@@ -73,8 +74,8 @@ extern "C" {
         record_len: usize,
         work: *mut u16,
         work_len: usize,
-        ends: *mut u16,
-        ends_len: usize,
+        pairs: *mut u16,
+        pairs_len: usize,
         breaks: *mut u16,
         breaks_len: usize,
         count: *mut u16,
@@ -82,7 +83,7 @@ extern "C" {
     ) -> u8;
 
     /// The piece cut of a batch of records: see [`icfl_batch`](crate::icfl_batch). [`Batch::read`](crate::Batch::read) reads the
-    /// replies beside the entries of `ends`.
+    /// replies beside the entries of `pairs`.
     pub fn metsroeb_icfl_batch(
         bytes: *const u8,
         bytes_len: usize,
@@ -90,8 +91,8 @@ extern "C" {
         record_ends_len: usize,
         work: *mut u16,
         work_len: usize,
-        ends: *mut u16,
-        ends_len: usize,
+        pairs: *mut u16,
+        pairs_len: usize,
     ) -> Batch;
 
     /// The strict cut: see [`cfl_in`](crate::cfl_in).
@@ -126,13 +127,13 @@ extern "C" {
     pub fn metsroeb_factor(
         record: *const u8,
         record_len: usize,
-        ends: *const u16,
-        ends_len: usize,
+        pairs: *const u16,
+        pairs_len: usize,
         number: usize,
         first: *mut u16,
         end: *mut u16,
     ) -> u8;
 
     /// The summary: see [`summarize`](crate::summarize).
-    pub fn metsroeb_summarize(record: *const u8, record_len: usize, ends: *const u16, ends_len: usize) -> Summary;
+    pub fn metsroeb_summarize(record: *const u8, record_len: usize, pairs: *const u16, pairs_len: usize) -> Summary;
 }

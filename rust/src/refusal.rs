@@ -25,15 +25,16 @@ impl Refusal {
     /// Test, piece cut (also with its breaks, also of a batch): the work buffer has fewer entries than the record's length
     /// (test) or three times that (piece cut).
     pub const SHORT_WORK: Refusal = Refusal::line(3);
-    /// All cuts, also of a batch, start table, repetitions: a result buffer, or what is left of it, has fewer entries than the answer.
+    /// All cuts, also of a batch, start table, repetitions: a result buffer, or what is left of it, has fewer entries than the
+    /// answer; a factor of the piece cut has two, a break five, a repetition three.
     pub const SHORT_RESULT: Refusal = Refusal::line(4);
     /// Comparison: the range's first place is not below its end, or its end is above the record's length.
     pub const BAD_RANGE: Refusal = Refusal::line(5);
     /// Comparison: a start is below the range's first place, or not below its end.
     pub const BAD_START: Refusal = Refusal::line(6);
-    /// Reader, summary: the list of ends is empty, its first end is 0, it does not rise strictly, or its last end is not the
-    /// record's length.
-    pub const BAD_ENDS: Refusal = Refusal::line(7);
+    /// Reader, summary: the paired list is empty or has an odd number of entries; its first end is 0, its ends do not rise
+    /// strictly, or the last is not the record's length; or a count is 0 or above its factor's length.
+    pub const BAD_PAIRS: Refusal = Refusal::line(7);
     /// Reader: the factor's number is not below the number of ends.
     pub const BAD_NUMBER: Refusal = Refusal::line(8);
     /// Test, after [`SHORT_WORK`](Refusal::SHORT_WORK): the record holds a mark, the byte 255.
@@ -76,10 +77,13 @@ impl Refusal {
             1 => "the record has length 0",
             2 => "the record has length above 4,096",
             3 => "the work buffer has fewer entries than 3 × length (piece cut) or than the length (test)",
-            4 => "the result buffer has fewer entries than the answer has",
+            4 => "the result buffer has fewer entries than the answer has, two for each piece of the piece cut",
             5 => "the first place is not below the end, or the end is above the length",
             6 => "a start is below the first place, or not below the end",
-            7 => "the list of ends is empty, its first end is 0, it is not strictly rising, or its last end is not the length",
+            7 => {
+                "the list of ends and counts is empty, has an odd number of entries, its first end is 0, its ends are not strictly \
+                 rising, its last end is not the length, or a count is 0 or above its piece's length"
+            }
             8 => "the piece number is not below the number of ends",
             9 => "the record holds a mark (test)",
             10 => "the list of record ends is empty, has more than 64 ends, falls somewhere, or does not end with the bytes lent",

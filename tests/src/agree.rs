@@ -1,7 +1,7 @@
 //! One call on guarded buffers against the promise. Each function panics at the first difference.
 use crate::lent::Lent;
 use crate::reference::SEPARATOR;
-use crate::words::Random;
+use crate::words::{with_counts, Random};
 use crate::{promise, reference, Calls, Filling, PEER};
 use metsroeb::{Break, Extension, Refusal, Run};
 use std::fmt::Debug;
@@ -10,6 +10,7 @@ use std::fmt::Debug;
 pub struct Answers {
     /// None where it holds a mark: the test is refused.
     pub extension: Option<Extension>,
+    /// Two entries for each factor.
     pub icfl: Vec<u16>,
     pub breaks: Vec<Break>,
     pub cfl_in: Vec<u16>,
@@ -43,7 +44,7 @@ impl Answers {
     /// For words that are too long for the definitions.
     pub fn by_peer(word: &[u8]) -> Answers {
         let n = word.len();
-        let (mut work, mut result, mut breaks, mut runs) = (vec![0; 3 * n], vec![0; n], vec![0; 5 * n], vec![0; 3 * n]);
+        let (mut work, mut result, mut breaks, mut runs) = (vec![0; 3 * n], vec![0; 2 * n], vec![0; 5 * n], vec![0; 3 * n]);
         Answers {
             extension: (PEER.find_extension)(word, &mut work).ok(),
             icfl: (PEER.icfl)(word, &mut work, &mut result).unwrap().to_vec(),
@@ -86,54 +87,54 @@ pub fn find_extension(calls: &Calls, word: &[u8], answers: &Answers, work_len: u
     record.expect(&record_before, &what);
 }
 
-pub fn icfl(calls: &Calls, word: &[u8], answers: &Answers, work_len: usize, ends_len: usize, random: &mut Random) {
-    let what = format!("icfl with {work_len} work and {ends_len} result entries on {}", shown(word));
+pub fn icfl(calls: &Calls, word: &[u8], answers: &Answers, work_len: usize, pairs_len: usize, random: &mut Random) {
+    let what = format!("icfl with {work_len} work and {pairs_len} result entries on {}", shown(word));
     let mut record = Lent::record(word, random);
     let mut work = Lent::entries(work_len, random);
-    let mut ends = Lent::entries(ends_len, random);
-    let (record_before, mut work_after, mut ends_after) = (record.clone(), work.clone(), ends.clone());
-    let place = ends.part().as_ptr();
-    let got = (calls.icfl)(record.part(), work.part(), ends.part());
+    let mut pairs = Lent::entries(pairs_len, random);
+    let (record_before, mut work_after, mut pairs_after) = (record.clone(), work.clone(), pairs.clone());
+    let place = pairs.part().as_ptr();
+    let got = (calls.icfl)(record.part(), work.part(), pairs.part());
     begins(&what, got, place);
-    same(&what, got, promise::icfl(word.len(), &answers.icfl, work_after.part(), ends_after.part()));
-    ends.expect(&ends_after, &what);
+    same(&what, got, promise::icfl(word.len(), &answers.icfl, work_after.part(), pairs_after.part()));
+    pairs.expect(&pairs_after, &what);
     work.expect(&work_after, &what);
     record.expect(&record_before, &what);
 }
 
-/// `sizes` are the numbers of work entries, of entries for the ends and of entries for the breaks.
+/// `sizes` are the numbers of work entries, of entries for the pairs and of entries for the breaks.
 pub fn icfl_with_breaks(calls: &Calls, word: &[u8], answers: &Answers, sizes: [usize; 3], random: &mut Random) {
     let what = format!("icfl_with_breaks with {sizes:?} entries on {}", shown(word));
     let mut record = Lent::record(word, random);
     let mut buffers = sizes.map(|size| Lent::entries(size, random));
     let (record_before, mut buffers_after) = (record.clone(), buffers.clone());
-    let [work, ends, breaks] = buffers.each_mut().map(Lent::part);
-    let place = ends.as_ptr();
-    let got = (calls.icfl_with_breaks)(record.part(), work, ends, breaks);
+    let [work, pairs, breaks] = buffers.each_mut().map(Lent::part);
+    let place = pairs.as_ptr();
+    let got = (calls.icfl_with_breaks)(record.part(), work, pairs, breaks);
     let considered: Vec<Break> = got.iter().flat_map(|(_, breaks)| breaks.clone()).collect();
-    let got = got.map(|(ends, _)| (ends, &considered[..]));
-    begins(&what, got.map(|(ends, _)| ends), place);
-    let [work, ends, breaks] = buffers_after.each_mut().map(Lent::part);
-    same(&what, got, promise::icfl_with_breaks(word.len(), (&answers.icfl, &answers.breaks), work, ends, breaks));
+    let got = got.map(|(pairs, _)| (pairs, &considered[..]));
+    begins(&what, got.map(|(pairs, _)| pairs), place);
+    let [work, pairs, breaks] = buffers_after.each_mut().map(Lent::part);
+    same(&what, got, promise::icfl_with_breaks(word.len(), (&answers.icfl, &answers.breaks), work, pairs, breaks));
     for (buffer, after) in buffers.iter().zip(&buffers_after) {
         buffer.expect(after, &what);
     }
     record.expect(&record_before, &what);
 }
 
-/// The ends of each record of a batch that can be cut, where the list of record ends says where it stands; none for the others.
+/// The pairs of each record of a batch that can be cut, where the list of record ends says where it stands; none for the others.
 pub fn batch_answers(bytes: &[u8], record_ends: &[u32]) -> Vec<Vec<u16>> {
     let starts = [0].iter().chain(record_ends);
     let records = starts.zip(record_ends).map(|(&from, &end)| bytes.get(from as usize..end as usize).unwrap_or(&[]));
     let answer = |word: &[u8]| match word.len() {
         1..=100 => reference::icfl(word),
-        101..=4096 => (PEER.icfl)(word, &mut vec![0; 3 * word.len()], &mut vec![0; word.len()]).unwrap().to_vec(),
+        101..=4096 => (PEER.icfl)(word, &mut vec![0; 3 * word.len()], &mut vec![0; 2 * word.len()]).unwrap().to_vec(),
         _ => Vec::new(),
     };
     records.map(answer).collect()
 }
 
-/// `sizes` are the numbers of work entries and of entries for the ends.
+/// `sizes` are the numbers of work entries and of entries for the pairs.
 pub fn icfl_batch(
     calls: &Calls,
     bytes: &[u8],
@@ -147,9 +148,9 @@ pub fn icfl_batch(
     let (mut record, mut list) = (Lent::record(bytes, random), Lent::record_ends(record_ends, random));
     let mut buffers = sizes.map(|size| Lent::entries(size, random));
     let (record_before, list_before, mut buffers_after) = (record.clone(), list.clone(), buffers.clone());
-    let [work, ends] = buffers.each_mut().map(Lent::part);
-    let mut place = ends.as_ptr();
-    let got = (calls.icfl_batch)(record.part(), list.part(), work, ends);
+    let [work, pairs] = buffers.each_mut().map(Lent::part);
+    let mut place = pairs.as_ptr();
+    let got = (calls.icfl_batch)(record.part(), list.part(), work, pairs);
     let got = got.map(|batch| {
         assert_eq!((batch.len(), batch.iter().len()), (record_ends.len(), record_ends.len()), "{what}");
         let replies = batch.iter().inspect(|&reply| {
@@ -158,8 +159,8 @@ pub fn icfl_batch(
         });
         replies.map(|reply| reply.map_err(Refusal::number)).collect::<Vec<_>>()
     });
-    let [work, ends] = buffers_after.each_mut().map(Lent::part);
-    same(&what, got, promise::icfl_batch(bytes.len(), record_ends, answers, work, ends));
+    let [work, pairs] = buffers_after.each_mut().map(Lent::part);
+    same(&what, got, promise::icfl_batch(bytes.len(), record_ends, answers, work, pairs));
     for (buffer, after) in buffers.iter().zip(&buffers_after) {
         buffer.expect(after, &what);
     }
@@ -212,27 +213,27 @@ pub fn compare_suffixes(calls: &Calls, word: &[u8], range: [usize; 2], starts: [
 }
 
 pub fn factor_at(calls: &Calls, word: &[u8], list: &[u16], number: usize, random: &mut Random) {
-    let what = format!("factor_at {number} of {} ends on {}", list.len(), shown(word));
+    let what = format!("factor_at {number} of {} entries on {}", list.len(), shown(word));
     let mut record = Lent::record(word, random);
-    let mut ends = Lent::list(list, random);
-    let (record_before, ends_before) = (record.clone(), ends.clone());
+    let mut pairs = Lent::list(list, random);
+    let (record_before, pairs_before) = (record.clone(), pairs.clone());
     let want = promise::factor_at(word.len(), list, number).map(|(first, end)| first as usize..end as usize);
     let place = record.part()[want.as_ref().map_or(0, |part| part.start)..].as_ptr();
-    let got = (calls.factor_at)(record.part(), ends.part(), number);
+    let got = (calls.factor_at)(record.part(), pairs.part(), number);
     begins(&what, got, place);
     same(&what, got, want.map(|part| &word[part]));
-    ends.expect(&ends_before, &what);
+    pairs.expect(&pairs_before, &what);
     record.expect(&record_before, &what);
 }
 
 pub fn summarize(calls: &Calls, word: &[u8], list: &[u16], random: &mut Random) {
-    let what = format!("summarize of {} ends on {}", list.len(), shown(word));
+    let what = format!("summarize of {} entries on {}", list.len(), shown(word));
     let mut record = Lent::record(word, random);
-    let mut ends = Lent::list(list, random);
-    let (record_before, ends_before) = (record.clone(), ends.clone());
-    let got = (calls.summarize)(record.part(), ends.part());
+    let mut pairs = Lent::list(list, random);
+    let (record_before, pairs_before) = (record.clone(), pairs.clone());
+    let got = (calls.summarize)(record.part(), pairs.part());
     same(&what, got, promise::summarize(word.len(), list));
-    ends.expect(&ends_before, &what);
+    pairs.expect(&pairs_before, &what);
     record.expect(&record_before, &what);
 }
 
@@ -246,12 +247,12 @@ pub fn all(calls: &Calls, word: &[u8], answers: &Answers, random: &mut Random) {
     };
     let work_len = about(n, random);
     find_extension(calls, word, answers, work_len, random);
-    let (work_len, ends_len) = (about(3 * n, random), about(answers.icfl.len(), random));
-    icfl(calls, word, answers, work_len, ends_len, random);
-    icfl(calls, word, answers, 3 * n + random.below(2), n, random);
+    let (work_len, pairs_len) = (about(3 * n, random), about(answers.icfl.len(), random));
+    icfl(calls, word, answers, work_len, pairs_len, random);
+    icfl(calls, word, answers, 3 * n + random.below(2), 2 * n, random);
     let sizes = [3 * n, answers.icfl.len(), 5 * answers.breaks.len()].map(|needed| about(needed, random));
     icfl_with_breaks(calls, word, answers, sizes, random);
-    icfl_with_breaks(calls, word, answers, [3 * n + random.below(2), n, 5 * n], random);
+    icfl_with_breaks(calls, word, answers, [3 * n + random.below(2), 2 * n, 5 * n], random);
     let ends_len = about(answers.cfl_in.len(), random);
     cfl_in(calls, word, answers, ends_len, random);
     cfl_in(calls, word, answers, n, random);
@@ -270,10 +271,15 @@ pub fn all(calls: &Calls, word: &[u8], answers: &Answers, random: &mut Random) {
     }
     compare_suffixes(calls, word, [random.below(n + 2), random.below(n + 2)], [random.below(n + 2), random.below(n + 2)], random);
 
-    let mut changed = answers.cfl_in.clone();
+    // the strict ends with any counts that are accepted; the same with an end or a count changed, or with a lone entry behind
+    let strict = with_counts(&answers.cfl_in, random);
+    let mut changed = strict.clone();
     let place = random.below(changed.len());
-    changed[place] = changed[place].wrapping_add(random.below(5) as u16).wrapping_sub(2);
-    for list in [&answers.icfl, &answers.cfl_in, &changed] {
+    match random.below(4) {
+        0 => changed.push(random.below(n + 2) as u16),
+        _ => changed[place] = changed[place].wrapping_add(random.below(5) as u16).wrapping_sub(2),
+    }
+    for list in [&answers.icfl, &strict, &changed] {
         factor_at(calls, word, list, random.below(list.len() + 1), random);
         summarize(calls, word, list, random);
     }

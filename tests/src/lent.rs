@@ -36,7 +36,7 @@ impl Lent<u16> {
         Lent::around(count, random, |random| random.draw() as u16)
     }
 
-    /// With the given content: a list of ends.
+    /// With the given content: a paired list.
     pub fn list(content: &[u16], random: &mut Random) -> Lent<u16> {
         let mut lent = Lent::entries(content.len(), random);
         lent.part().copy_from_slice(content);

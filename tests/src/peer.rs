@@ -3,6 +3,7 @@
 pub mod by_eights; // the comparison and the repetitions once more, eight bytes at a time
 #[path = "../../rust/src/calls.rs"]
 mod calls;
+mod lists;
 mod plain;
 pub mod raw;
 mod runs;

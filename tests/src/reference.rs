@@ -75,7 +75,7 @@ fn pieces(word: &[u8], begun: usize) -> (Vec<usize>, Vec<Break>) {
 }
 
 /// The ends of the piece cut, and its breaks: each mark is a piece, each nonempty stretch is cut as a record by itself.
-pub fn icfl_with_breaks(record: &[u8]) -> (Vec<u16>, Vec<Break>) {
+fn ends_and_breaks(record: &[u8]) -> (Vec<u16>, Vec<Break>) {
     let (mut ends, mut breaks) = (Vec::new(), Vec::new());
     for (mut end, stretch) in stretches(record) {
         if end > 0 {
@@ -94,7 +94,16 @@ pub fn icfl_with_breaks(record: &[u8]) -> (Vec<u16>, Vec<Break>) {
     (ends, breaks)
 }
 
-/// The ends of the piece cut.
+/// The piece cut, and its breaks. Request 108: "Each entry of the piece cut becomes two numbers, the end and the number of strict
+/// pieces inside", which is how many of the strict ends lie after the piece before and not after the end.
+pub fn icfl_with_breaks(record: &[u8]) -> (Vec<u16>, Vec<Break>) {
+    let ((ends, breaks), strict_ends) = (ends_and_breaks(record), cfl_in(record));
+    let inside = |from, end| strict_ends.iter().filter(|&&strict| from < strict && strict <= end).count() as u16;
+    let pairs = parts(&ends).into_iter().flat_map(|(from, end)| [end, inside(from, end)]).collect();
+    (pairs, breaks)
+}
+
+/// The piece cut.
 pub fn icfl(record: &[u8]) -> Vec<u16> {
     icfl_with_breaks(record).0
 }
@@ -178,14 +187,19 @@ pub fn runs(record: &[u8]) -> Vec<Run> {
     runs
 }
 
-/// First place and end of each factor that a list of ends marks.
-pub fn factors(ends: &[u16]) -> Vec<(u16, u16)> {
+/// First place and end of each part that a list of ends marks.
+pub fn parts(ends: &[u16]) -> Vec<(u16, u16)> {
     (0..ends.len()).map(|k| (if k == 0 { 0 } else { ends[k - 1] }, ends[k])).collect()
 }
 
-/// The summary of the factors that a list of ends marks.
-pub fn summary(ends: &[u16]) -> Summary {
-    let factors = factors(ends);
+/// The ends in a paired list: every other entry, from the first on.
+pub fn ends_of(pairs: &[u16]) -> Vec<u16> {
+    pairs.iter().step_by(2).copied().collect()
+}
+
+/// The summary of the factors that a paired list marks.
+pub fn summary(pairs: &[u16]) -> Summary {
+    let factors = parts(&ends_of(pairs));
     let longest = factors.iter().map(|(from, end)| end - from).max().unwrap_or(0);
     let from = factors.iter().rev().find(|(from, end)| end - from == longest).map_or(0, |f| f.0);
     let digits = |(from, end): &(u16, u16)| format!("{:b}", end - from).len();

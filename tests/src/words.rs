@@ -1,5 +1,5 @@
 //! Words to try the calls on.
-use crate::reference::SEPARATOR;
+use crate::reference::{parts, SEPARATOR};
 
 /// A xorshift generator.
 #[derive(Clone)]
@@ -46,6 +46,34 @@ pub fn all_marked_words(letters: usize, length: usize) -> impl Iterator<Item = V
     all_words(letters, length)
         .map(move |word| word.iter().map(|&letter| if letter == last { SEPARATOR } else { letter }).collect())
 }
+
+/// All rising lists of ends of a record of `length` letters.
+pub fn all_divisions(length: usize) -> impl Iterator<Item = Vec<u16>> {
+    (0..1usize << (length - 1)).map(move |chosen| {
+        (1..=length).filter(|&end| end == length || chosen >> (end - 1) & 1 == 1).map(|end| end as u16).collect()
+    })
+}
+
+/// The list of ends with a count for each, from 1 to its part's length: a paired list that is accepted.
+pub fn with_counts(ends: &[u16], random: &mut Random) -> Vec<u16> {
+    let pair = |(from, end): (u16, u16)| [end, 1 + random.below((end - from).into()) as u16];
+    parts(ends).into_iter().flat_map(pair).collect()
+}
+
+/// Paper 01's A to K: the record; its piece ends, each with the number of strict pieces inside; its strict ends.
+pub const RECORDS: [(&str, &[u16], &[u16]); 11] = [
+    ("a", &[1, 1], &[1]),
+    ("aaa", &[3, 3], &[1, 2, 3]),
+    ("ab", &[1, 1, 2, 1], &[1, 2]),
+    ("ba", &[2, 1], &[2]),
+    ("abc", &[1, 1, 2, 1, 3, 1], &[1, 2, 3]),
+    ("baba", &[4, 2], &[2, 4]),
+    ("bbabbabbb", &[6, 2, 9, 3], &[3, 6, 7, 8, 9]),
+    ("cbabacbac", &[5, 1, 9, 2], &[5, 8, 9]),
+    ("cbabacaacbabacbac", &[13, 2, 17, 2], &[8, 13, 16, 17]),
+    ("dabadabdabdadac", &[4, 1, 10, 2, 15, 1], &[4, 7, 10, 15]),
+    ("dabdadacddbdc", &[3, 1, 8, 1, 13, 1], &[3, 8, 13]),
+];
 
 /// A kind of pseudo-random words: its name, and what makes a word of at most the given length.
 pub type Kind = (&'static str, fn(&mut Random, usize) -> Vec<u8>);

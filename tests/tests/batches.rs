@@ -1,7 +1,7 @@
-//! What request 105 says of a card, a batch of records, through every implementation.
+//! What requests 105 and 108 say of a card, a batch of records, through every implementation.
 use metsroeb::{raw, Refusal, MOST_RECORDS};
 use metsroeb_tests::agree::{self, batch_answers};
-use metsroeb_tests::words::{all_words, Random, KINDS};
+use metsroeb_tests::words::{all_words, Random, KINDS, RECORDS};
 use metsroeb_tests::{promise, Calls, PEER, VERIFIED};
 
 const BOTH: [&Calls; 2] = [&VERIFIED, &PEER];
@@ -34,34 +34,28 @@ fn cut(
     mut with: impl FnMut(Result<Vec<Result<Vec<u16>, u8>>, u8>, Vec<u16>, Vec<u16>),
 ) {
     for calls in BOTH {
-        let [mut work, mut ends] = sizes.map(|size| vec![7; size]);
-        let got = (calls.icfl_batch)(bytes, record_ends, &mut work, &mut ends).map_err(Refusal::number);
+        let [mut work, mut pairs] = sizes.map(|size| vec![7; size]);
+        let got = (calls.icfl_batch)(bytes, record_ends, &mut work, &mut pairs).map_err(Refusal::number);
         let got = got.map(|batch| batch.iter().map(|reply| reply.map(<[u16]>::to_vec).map_err(Refusal::number)).collect());
-        with(got, work, ends);
+        with(got, work, pairs);
     }
 }
 
 /// Paper 01's records A to K as one card, with just enough entries: "Ends are counted within their own record."
 #[test]
 fn records_a_to_k() {
-    let records: [(&[u8], &[u16]); 11] = [
-        (b"a", &[1]),
-        (b"aaa", &[3]),
-        (b"ab", &[1, 2]),
-        (b"ba", &[2]),
-        (b"abc", &[1, 2, 3]),
-        (b"baba", &[4]),
-        (b"bbabbabbb", &[6, 9]),
-        (b"cbabacbac", &[5, 9]),
-        (b"cbabacaacbabacbac", &[13, 17]),
-        (b"dabadabdabdadac", &[4, 10, 15]),
-        (b"dabdadacddbdc", &[3, 8, 13]),
-    ];
-    let (bytes, record_ends) = batch_of(&records.map(|(record, _)| record));
-    let packed = records.map(|(_, ends)| ends).concat();
-    cut(&bytes, &record_ends, [3 * 17 + 1, packed.len()], |got, work, ends| {
-        assert_eq!(got, Ok(records.map(|(_, ends)| Ok(ends.to_vec())).to_vec()));
-        assert_eq!((&work[..51], work[51], &ends), (&[0; 51][..], 7, &packed));
+    let (bytes, record_ends) = batch_of(&RECORDS.map(|(record, ..)| record.as_bytes()));
+    let packed = RECORDS.map(|(_, pairs, _)| pairs).concat();
+    let mut answers = RECORDS.map(|(_, pairs, _)| Ok(pairs.to_vec())).to_vec();
+    cut(&bytes, &record_ends, [3 * 17 + 1, packed.len()], |got, work, pairs| {
+        assert_eq!(got, Ok(answers.clone()));
+        assert_eq!((&work[..51], work[51], &pairs), (&[0; 51][..], 7, &packed));
+    });
+    // with one entry fewer the last record gets 4, and five entries stay
+    answers[10] = Err(4);
+    cut(&bytes, &record_ends, [3 * 17 + 1, packed.len() - 1], |got, _, pairs| {
+        assert_eq!(got, Ok(answers.clone()));
+        assert_eq!((&pairs[..36], &pairs[36..]), (&packed[..36], &[7; 5][..]));
     });
 }
 
@@ -70,11 +64,11 @@ fn records_a_to_k() {
 fn refused_records_among_others() {
     let long = vec![b'a'; 4097];
     let (bytes, record_ends) = batch_of(&[b"cbabacbac", b"abc", &long, b"", b"baba", b"cbabacaacbabacbac", b"ba", b"ab"]);
-    // with 50 work entries record I, of 17 bytes, gets 3; `abc` has three ends where two entries are left
-    let replies = [Ok(vec![5, 9]), Err(4), Err(2), Err(1), Ok(vec![4]), Err(3), Ok(vec![2]), Err(4)];
-    cut(&bytes, &record_ends, [50, 4], |got, work, ends| {
+    // with 50 work entries record I, of 17 bytes, gets 3; `abc` needs six entries where five are left, `ab` four where one is
+    let replies = [Ok(vec![5, 1, 9, 2]), Err(4), Err(2), Err(1), Ok(vec![4, 2]), Err(3), Ok(vec![2, 1]), Err(4)];
+    cut(&bytes, &record_ends, [50, 9], |got, work, pairs| {
         assert_eq!(got, Ok(replies.to_vec()));
-        assert_eq!((&work[..27], &work[27..], &ends[..]), (&[0; 27][..], &[7; 23][..], &[5, 9, 4, 2][..]));
+        assert_eq!((&work[..27], &work[27..], &pairs[..]), (&[0; 27][..], &[7; 23][..], &[5, 1, 9, 2, 4, 2, 2, 1, 7][..]));
     });
 }
 
@@ -82,22 +76,22 @@ fn refused_records_among_others() {
 #[test]
 fn work_by_the_longest_record() {
     let mut random = Random::new(0x5eed_0051);
-    for (records, ends_len, work_len, zeros) in [
-        (&[&b"ba"[..], b"cbabacbac", b"ba"][..], 4, 40, 27),
-        (&[b"cbabacbac", b"ba"], 3, 40, 27),
-        (&[b"ba", b"cbabacbac"], 3, 40, 27),
-        (&[b"ba", b"cbabacbac"], 1, 40, 27),        // refused by 4
-        (&[b"cbabacbac", b"ba"], 1, 40, 27),        // refused by 4
-        (&[b"ba", b"cbabacbac", b"bba"], 4, 26, 9), // refused by 3
+    for (records, pairs_len, work_len, zeros) in [
+        (&[&b"ba"[..], b"cbabacbac", b"ba"][..], 8, 40, 27),
+        (&[b"cbabacbac", b"ba"], 6, 40, 27),
+        (&[b"ba", b"cbabacbac"], 6, 40, 27),
+        (&[b"ba", b"cbabacbac"], 5, 40, 27),        // refused by 4
+        (&[b"cbabacbac", b"ba"], 3, 40, 27),        // refused by 4
+        (&[b"ba", b"cbabacbac", b"bba"], 8, 26, 9), // refused by 3
         (&[b"abc", b"", b"abc"], 0, 40, 9),
         (&[b"", b""], 0, 40, 0),
-        (&[b"a", b"a", b"a", b"a", b"a"], 5, 40, 3),
+        (&[b"a", b"a", b"a", b"a", b"a"], 10, 40, 3),
     ] {
         let (bytes, record_ends) = batch_of(records);
-        cut(&bytes, &record_ends, [work_len, ends_len], |_, work, _| {
+        cut(&bytes, &record_ends, [work_len, pairs_len], |_, work, _| {
             assert!(work[..zeros].iter().all(|&entry| entry == 0) && work[zeros..].iter().all(|&entry| entry == 7), "{work:?}");
         });
-        expect(&bytes, &record_ends, &[[work_len, ends_len]], &mut random);
+        expect(&bytes, &record_ends, &[[work_len, pairs_len]], &mut random);
     }
 }
 
@@ -109,9 +103,9 @@ fn number_of_records() {
         for length in [0, 1, 3] {
             let bytes = b"cba".iter().cycle().take(length * count).copied().collect::<Vec<u8>>();
             let record_ends: Vec<u32> = (1..=count).map(|k| (k * length) as u32).collect();
-            expect(&bytes, &record_ends, &[[9, count], [9, count / 2], [2, count]], &mut random);
-            cut(&bytes, &record_ends, [9, count], |got, work, ends| {
-                let untouched = work == vec![7; 9] && ends == vec![7; count];
+            expect(&bytes, &record_ends, &[[9, 2 * count], [9, count], [2, 2 * count]], &mut random);
+            cut(&bytes, &record_ends, [9, 2 * count], |got, work, pairs| {
+                let untouched = work == vec![7; 9] && pairs == vec![7; 2 * count];
                 match got {
                     Ok(replies) => assert!((1..=64).contains(&count) && replies.len() == count),
                     Err(number) => assert!(number == 10 && untouched && !(1..=64).contains(&count)),
@@ -132,10 +126,10 @@ fn short_lists() {
         ends.extend([256 + length, 65_535, 65_536, 65_536 + length, u32::MAX]);
         for list in (0..=4).flat_map(|count| all_words(ends.len(), count)) {
             let list: Vec<u32> = list.iter().map(|&letter| ends[(letter - b'a') as usize]).collect();
-            let sizes = [random.below(10), random.below(4)];
+            let sizes = [random.below(10), random.below(7)];
             let proper = !list.is_empty() && list.is_sorted() && *list.last().unwrap() == length;
             let answers = batch_answers(bytes, &list);
-            let promised = promise::icfl_batch(bytes.len(), &list, &answers, &mut [7; 9], &mut [7; 3]);
+            let promised = promise::icfl_batch(bytes.len(), &list, &answers, &mut [7; 9], &mut [7; 6]);
             assert_eq!(promised.is_ok(), proper);
             accepted += u32::from(proper);
             expect(bytes, &list, &[sizes], &mut random);
@@ -147,14 +141,14 @@ fn short_lists() {
 /// "or a first end of 0": also the card of no bytes and one end.
 #[test]
 fn empty_records() {
-    cut(b"", &[0], [3, 3], |got, work, ends| {
-        assert_eq!((got, work, ends), (Ok(vec![Err(1)]), vec![7; 3], vec![7; 3]));
+    cut(b"", &[0], [3, 3], |got, work, pairs| {
+        assert_eq!((got, work, pairs), (Ok(vec![Err(1)]), vec![7; 3], vec![7; 3]));
     });
-    cut(b"ab", &[0, 0, 2, 2], [6, 3], |got, work, ends| {
-        assert_eq!(got, Ok(vec![Err(1), Err(1), Ok(vec![1, 2]), Err(1)]));
-        assert_eq!((work, ends), (vec![0; 6], vec![1, 2, 7]));
+    cut(b"ab", &[0, 0, 2, 2], [6, 5], |got, work, pairs| {
+        assert_eq!(got, Ok(vec![Err(1), Err(1), Ok(vec![1, 1, 2, 1]), Err(1)]));
+        assert_eq!((work, pairs), (vec![0; 6], vec![1, 1, 2, 1, 7]));
     });
-    cut(b"ab", &[0], [6, 3], |got, work, ends| assert_eq!((got, work, ends), (Err(10), vec![7; 6], vec![7; 3])));
+    cut(b"ab", &[0], [6, 5], |got, work, pairs| assert_eq!((got, work, pairs), (Err(10), vec![7; 6], vec![7; 5])));
 }
 
 /// A fault at any place of a long list leaves everything, also the records before it, as it was.
@@ -166,14 +160,14 @@ fn one_fault_in_a_long_list() {
         for end in [0, 1, proper[place] - 1, proper[place] + 1, proper[place] + 9, proper[place] + 10, 576, 577, u32::MAX] {
             let mut record_ends = proper.clone();
             record_ends[place] = end;
-            expect(&bytes, &record_ends, &[[60, 576], [9, 5]], &mut random);
+            expect(&bytes, &record_ends, &[[60, 1152], [9, 5]], &mut random);
         }
     }
     for last in [575, 577, 0, 576 - 256, 576 + 65_536, u32::MAX] {
         let mut record_ends = proper.clone();
         record_ends[63] = last;
-        cut(&bytes, &record_ends, [27, 128], |got, work, ends| {
-            assert_eq!((got, work, ends), (Err(10), vec![7; 27], vec![7; 128]));
+        cut(&bytes, &record_ends, [27, 256], |got, work, pairs| {
+            assert_eq!((got, work, pairs), (Err(10), vec![7; 27], vec![7; 256]));
         });
     }
 }
@@ -184,16 +178,18 @@ fn one_record_is_the_single_call() {
     let mut random = Random::new(0x5eed_0055);
     for word in (0..=6).flat_map(|length| all_words(3, length)).chain([vec![b'a'; 4096], vec![b'a'; 4097], vec![b'a'; 65_537]]) {
         let n = word.len();
-        for [work_len, ends_len] in [[3 * n, n], [(3 * n).saturating_sub(1), n], [3 * n + 2, 1], [3 * n, 0], [3 * n, n / 2]] {
-            cut(&word, &[n as u32], [work_len, ends_len], |got, work, ends| {
-                let (mut single_work, mut single_ends) = (vec![7; work_len], vec![7; ends_len]);
-                let single = (VERIFIED.icfl)(&word, &mut single_work, &mut single_ends);
+        let work_len = 3 * n;
+        let sizes = [[work_len, 2 * n], [work_len.saturating_sub(1), 2 * n], [work_len + 2, 1], [work_len, 0], [work_len, n]];
+        for [work_len, pairs_len] in sizes {
+            cut(&word, &[n as u32], [work_len, pairs_len], |got, work, pairs| {
+                let (mut single_work, mut single_pairs) = (vec![7; work_len], vec![7; pairs_len]);
+                let single = (VERIFIED.icfl)(&word, &mut single_work, &mut single_pairs);
                 assert_eq!(got, Ok(vec![single.map(<[u16]>::to_vec).map_err(Refusal::number)]));
-                assert_eq!((work, ends), (single_work, single_ends));
+                assert_eq!((work, pairs), (single_work, single_pairs));
             });
         }
     }
-    expect(b"cbabacbac", &[9], &[[27, 2], [27, 1], [26, 2], [30, 9]], &mut random);
+    expect(b"cbabacbac", &[9], &[[27, 4], [27, 3], [27, 2], [26, 4], [30, 18]], &mut random);
 }
 
 /// Long records among short ones; bytes, ends and used entries past 16 bits; records whose lengths are 0 to 16 bits.
@@ -205,21 +201,22 @@ fn long_records() {
         let long: Vec<u8> = over(3, length, &mut random);
         let marks = vec![255; length.min(4096)];
         let (bytes, record_ends) = batch_of(&[b"ba", &long, b"cbabacbac", b"", &marks, &long, b"ab"]);
-        expect(&bytes, &record_ends, &[[3 * 4096 + 3, bytes.len()], [3 * 4096 - 1, bytes.len()], [27, 4]], &mut random);
+        let enough = 2 * bytes.len();
+        expect(&bytes, &record_ends, &[[3 * 4096 + 3, enough], [3 * 4096 - 1, enough], [27, 8]], &mut random);
     }
     let marks = [255; 4096];
     let mut records = vec![&marks[..]; 17];
     records.insert(16, b"ab");
     records.push(b"cbabacbac");
     let (bytes, record_ends) = batch_of(&records);
-    let all = 17 * 4096 + 4;
-    expect(&bytes, &record_ends, &[[12_288, all], [12_288, all - 1], [12_300, bytes.len()], [12_287, bytes.len()]], &mut random);
+    let (all, enough) = (2 * (17 * 4096 + 4), 2 * bytes.len());
+    expect(&bytes, &record_ends, &[[12_288, all], [12_288, all - 1], [12_300, enough], [12_287, enough]], &mut random);
     let full: Vec<Vec<u8>> = (0..64).map(|_| over(2, 4096, &mut random)).collect();
     let (bytes, record_ends) = batch_of(&full.iter().map(Vec::as_slice).collect::<Vec<_>>());
-    expect(&bytes, &record_ends, &[[12_288, bytes.len()], [12_290, 20_000]], &mut random);
+    expect(&bytes, &record_ends, &[[12_288, 2 * bytes.len()], [12_290, 40_000]], &mut random);
 }
 
-/// Records of all kinds, some empty; tight buffers; some lists with a fault. As many entries as bytes are always enough.
+/// Records of all kinds, some empty; tight buffers; some lists with a fault. Twice as many entries as bytes are always enough.
 fn random_batches(rounds: usize, most_records: usize, most_bytes: usize, seed: u64) -> [usize; 11] {
     let mut random = Random::new(seed);
     let mut seen = [0; 11];
@@ -247,17 +244,18 @@ fn random_batches(rounds: usize, most_records: usize, most_bytes: usize, seed: u
         let some = words[random.below(count)].len();
         let longest = words.iter().map(Vec::len).max().unwrap();
         let work_len = [3 * longest, 3 * longest + random.below(9), 3 * some, (3 * some).saturating_sub(1)][random.below(4)];
-        let ends_len = [bytes.len(), needed, needed.saturating_sub(1), random.below(needed + 1), needed / 2][random.below(5)];
+        let enough = 2 * bytes.len();
+        let pairs_len = [enough, needed, needed.saturating_sub(1), random.below(needed + 1), needed / 2][random.below(5)];
         for calls in BOTH {
-            agree::icfl_batch(calls, &bytes, &record_ends, &answers, [work_len, ends_len], &mut random);
+            agree::icfl_batch(calls, &bytes, &record_ends, &answers, [work_len, pairs_len], &mut random);
         }
-        let [mut work, mut ends] = [vec![0; work_len], vec![0; ends_len]];
-        match promise::icfl_batch(bytes.len(), &record_ends, &answers, &mut work, &mut ends) {
+        let [mut work, mut pairs] = [vec![0; work_len], vec![0; pairs_len]];
+        match promise::icfl_batch(bytes.len(), &record_ends, &answers, &mut work, &mut pairs) {
             Err(number) => seen[number as usize] += 1,
             Ok(replies) => {
                 let refused = |reply: &Result<_, u8>| reply.err().unwrap_or(0);
                 replies.iter().for_each(|reply| seen[refused(reply) as usize] += 1);
-                assert!(ends_len < bytes.len() || replies.iter().all(|reply| refused(reply) != 4));
+                assert!(pairs_len < enough || replies.iter().all(|reply| refused(reply) != 4));
                 // a record behind one that was refused by 4 fits: counted in place 9
                 let behind = replies.iter().skip_while(|reply| refused(reply) != 4).any(|reply| refused(reply) == 0);
                 seen[9] += usize::from(behind);
@@ -296,7 +294,7 @@ fn every_place_of_the_answer() {
             if broken && count > 0 {
                 record_ends[random.below(count)] += 10;
             }
-            let [mut work, mut ends] = [vec![7u16; 27], vec![7u16; count]];
+            let [mut work, mut pairs] = [vec![7u16; 27], vec![7u16; 2 * count]];
             let got = unsafe {
                 raw::metsroeb_icfl_batch(
                     bytes.as_ptr(),
@@ -305,8 +303,8 @@ fn every_place_of_the_answer() {
                     count,
                     work.as_mut_ptr(),
                     work.len(),
-                    ends.as_mut_ptr(),
-                    ends.len(),
+                    pairs.as_mut_ptr(),
+                    pairs.len(),
                 )
             };
             let proper = (1..=64).contains(&count) && !broken;

@@ -1,23 +1,9 @@
 //! Paper 01's records with known ends, and what else it and the requests say of records by name, through every implementation.
-use metsroeb::{Break, Comparison, Extension, Fate, Refusal, Run, Summary, MOST};
-use metsroeb_tests::words::fibonacci_word;
+use metsroeb::{Break, Comparison, Extension, Factor, Factors, Fate, Refusal, Run, Summary, MOST};
+use metsroeb_tests::words::{fibonacci_word, RECORDS};
 use metsroeb_tests::{reference, Calls, PEER, VERIFIED};
 use std::cmp::Ordering;
 
-/// A to K: the record, its piece ends, its strict ends.
-const RECORDS: [(&str, &[u16], &[u16]); 11] = [
-    ("a", &[1], &[1]),
-    ("aaa", &[3], &[1, 2, 3]),
-    ("ab", &[1, 2], &[1, 2]),
-    ("ba", &[2], &[2]),
-    ("abc", &[1, 2, 3], &[1, 2, 3]),
-    ("baba", &[4], &[2, 4]),
-    ("bbabbabbb", &[6, 9], &[3, 6, 7, 8, 9]),
-    ("cbabacbac", &[5, 9], &[5, 8, 9]),
-    ("cbabacaacbabacbac", &[13, 17], &[8, 13, 16, 17]),
-    ("dabadabdabdadac", &[4, 10, 15], &[4, 7, 10, 15]),
-    ("dabdadacddbdc", &[3, 8, 13], &[3, 8, 13]),
-];
 const G: &[u8] = b"bbabbabbb";
 const H: &[u8] = b"cbabacbac";
 const I: &[u8] = b"cbabacaacbabacbac";
@@ -26,16 +12,33 @@ const BOTH: [&Calls; 2] = [&VERIFIED, &PEER];
 
 #[test]
 fn records_a_to_k() {
-    for (word, pieces, strict) in RECORDS {
+    for (word, pairs, strict) in RECORDS {
         let word = word.as_bytes();
-        assert_eq!(reference::icfl(word), pieces);
+        assert_eq!(reference::icfl(word), pairs);
         assert_eq!(reference::cfl_in(word), strict);
         for calls in BOTH {
-            let (mut work, mut ends) = (vec![0; 3 * word.len()], vec![0; word.len()]);
-            assert_eq!((calls.icfl)(word, &mut work, &mut ends), Ok(pieces));
-            assert_eq!((calls.cfl_in)(word, &mut ends), Ok(strict));
+            let (mut work, mut result) = (vec![0; 3 * word.len()], vec![0; 2 * word.len()]);
+            assert_eq!((calls.icfl)(word, &mut work, &mut result), Ok(pairs));
+            assert_eq!((calls.cfl_in)(word, &mut result), Ok(strict));
+            // reader and summary take the list as it is
+            assert_eq!((calls.summarize)(word, pairs).map(|summary| 2 * usize::from(summary.count)), Ok(pairs.len()));
+            let mut from = 0;
+            for (number, Factor { end, .. }) in Factors::read(pairs).enumerate() {
+                assert_eq!((calls.factor_at)(word, pairs, number), Ok(&word[from..end.into()]));
+                from = end.into();
+            }
+            assert_eq!((calls.factor_at)(word, pairs, pairs.len() / 2), Err(Refusal::BAD_NUMBER));
         }
     }
+}
+
+/// Two entries are one factor, and a lone one is none.
+#[test]
+fn factors_of_entries() {
+    let factors = Factors::read(&[13, 2, 17, 2]);
+    assert_eq!(factors.len(), 2);
+    assert!(factors.eq([Factor { end: 13, anti_lyndon: 2 }, Factor { end: 17, anti_lyndon: 2 }]));
+    assert_eq!([&[][..], &[13], &[13, 2], &[13, 2, 17]].map(|entries| Factors::read(entries).count()), [0, 0, 1, 1]);
 }
 
 /// Request 102, with its example, record I. The others: joined with 0; one join inside another; no break, and then no room for
@@ -45,51 +48,52 @@ fn breaks_of_records() {
     use Fate::{Joined, Kept};
     let with = |place, begun, border, fate| Break { place, begun, border, fate };
     let records: [(&str, &[u16], &[Break]); 5] = [
-        ("cbabacaacbabacbac", &[13, 17], &[with(8, 0, 6, Joined(1)), with(13, 8, 3, Kept(b'b', b'c'))]),
-        ("baababb", &[5, 7], &[with(3, 0, 2, Joined(0)), with(5, 3, 1, Kept(b'a', b'b'))]),
+        ("cbabacaacbabacbac", &[13, 2, 17, 2], &[with(8, 0, 6, Joined(1)), with(13, 8, 3, Kept(b'b', b'c'))]),
+        ("baababb", &[5, 2, 7, 2], &[with(3, 0, 2, Joined(0)), with(5, 3, 1, Kept(b'a', b'b'))]),
         (
             "cbabacaacbabaacbabacaacbabacbac",
-            &[27, 31],
+            &[27, 3, 31, 2],
             &[with(14, 0, 13, Joined(0)), with(22, 14, 6, Joined(1)), with(27, 22, 3, Kept(b'b', b'c'))],
         ),
-        ("baba", &[4], &[]),
+        ("baba", &[4, 2], &[]),
         (
             "abcd",
-            &[1, 2, 3, 4],
+            &[1, 1, 2, 1, 3, 1, 4, 1],
             &[with(1, 0, 0, Kept(b'a', b'b')), with(2, 1, 0, Kept(b'b', b'c')), with(3, 2, 0, Kept(b'c', b'd'))],
         ),
     ];
-    for (word, ends, breaks) in records {
+    for (word, pairs, breaks) in records {
         let word = word.as_bytes();
-        assert_eq!(reference::icfl_with_breaks(word), (ends.to_vec(), breaks.to_vec()));
+        assert_eq!(reference::icfl_with_breaks(word), (pairs.to_vec(), breaks.to_vec()));
         for calls in BOTH {
-            let mut lent = (vec![0; 3 * word.len()], vec![0; ends.len()], vec![0; 5 * breaks.len()]);
+            let mut lent = (vec![0; 3 * word.len()], vec![0; pairs.len()], vec![0; 5 * breaks.len()]);
             let (got, considered) = (calls.icfl_with_breaks)(word, &mut lent.0, &mut lent.1, &mut lent.2).unwrap();
-            assert_eq!((got, considered.len()), (ends, breaks.len()));
+            assert_eq!((got, considered.len()), (pairs, breaks.len()));
             assert_eq!(considered.collect::<Vec<_>>(), breaks);
         }
     }
 }
 
-/// "In its buffer a break fills five 16-bit entries"; what lies past the answer stays.
+/// A factor fills two entries, "in its buffer a break fills five"; what lies past the answers stays.
 #[test]
 fn entries_of_i() {
     for calls in BOTH {
-        let mut breaks = [7; 12];
-        (calls.icfl_with_breaks)(I, &mut [7; 51], &mut [7; 2], &mut breaks).unwrap();
+        let (mut pairs, mut breaks) = ([7; 6], [7; 12]);
+        (calls.icfl_with_breaks)(I, &mut [7; 51], &mut pairs, &mut breaks).unwrap();
+        assert_eq!(pairs, [13, 2, 17, 2, 7, 7]);
         assert_eq!(breaks, [8, 0, 6, 256, 1, 13, 8, 3, b'b'.into(), b'c'.into(), 7, 7]);
     }
 }
 
-/// "A short buffer for them is met by refusal 4, once the ends have been found to fit": the ends are not written then.
+/// "A short buffer for them is met by refusal 4, once the ends have been found to fit": the pairs are not written then.
 #[test]
 fn i_with_short_results() {
     for calls in BOTH {
-        for (ends_len, breaks_len) in [(2, 9), (1, 10), (1, 9)] {
-            let (mut work, mut ends, mut breaks) = ([7; 52], [7; 2], [7; 10]);
-            let got = (calls.icfl_with_breaks)(I, &mut work, &mut ends[..ends_len], &mut breaks[..breaks_len]);
+        for (pairs_len, breaks_len) in [(4, 9), (3, 10), (3, 9), (2, 10), (0, 10)] {
+            let (mut work, mut pairs, mut breaks) = ([7; 52], [7; 4], [7; 10]);
+            let got = (calls.icfl_with_breaks)(I, &mut work, &mut pairs[..pairs_len], &mut breaks[..breaks_len]);
             assert_eq!(got.err(), Some(Refusal::SHORT_RESULT));
-            assert_eq!((&work[..51], work[51], ends, breaks), (&[0; 51][..], 7, [7; 2], [7; 10]));
+            assert_eq!((&work[..51], work[51], pairs, breaks), (&[0; 51][..], 7, [7; 4], [7; 10]));
         }
     }
 }
@@ -109,8 +113,8 @@ fn start_table_and_summary_of_h() {
     for calls in BOTH {
         assert_eq!((calls.lyndon_table)(H, &mut [0; 9]), Ok(&[5, 2, 1, 2, 1, 3, 2, 1, 1][..]));
         let summary = Summary { count: 2, longest: 5, from: 0, bands: [0, 0, 2, 0, 0, 0, 0, 0, 0, 0, 0, 0, 0] };
-        assert_eq!((calls.summarize)(H, &[5, 9]), Ok(summary));
-        assert_eq!((calls.factor_at)(H, &[5, 9], 1), Ok(&b"cbac"[..]));
+        assert_eq!((calls.summarize)(H, &[5, 1, 9, 2]), Ok(summary));
+        assert_eq!((calls.factor_at)(H, &[5, 1, 9, 2], 1), Ok(&b"cbac"[..]));
     }
 }
 
@@ -183,18 +187,18 @@ fn repetitions_of_fibonacci_words() {
 /// third is neither their neighbour nor the last piece.
 #[test]
 fn latest_of_the_longest() {
-    for (word, ends, longest, from) in [
-        (&b"baba"[..], &[4][..], 4, 0),
-        (b"abc", &[1, 2, 3], 1, 2),
-        (b"aabb", &[2, 4], 2, 2),
-        (b"dabdadacddbdc", &[3, 8, 13], 5, 8),
-        (b"aabbcdde", &[2, 4, 5, 7, 8], 2, 5),
+    for (word, pairs, longest, from) in [
+        (&b"baba"[..], &[4, 2][..], 4, 0),
+        (b"abc", &[1, 1, 2, 1, 3, 1], 1, 2),
+        (b"aabb", &[2, 2, 4, 2], 2, 2),
+        (b"dabdadacddbdc", &[3, 1, 8, 1, 13, 1], 5, 8),
+        (b"aabbcdde", &[2, 2, 4, 2, 5, 1, 7, 2, 8, 1], 2, 5),
     ] {
-        assert_eq!(reference::icfl(word), ends);
+        assert_eq!(reference::icfl(word), pairs);
         let wanted = |summary: Summary| (summary.longest, summary.from) == (longest, from);
-        assert!(wanted(reference::summary(ends)));
+        assert!(wanted(reference::summary(pairs)));
         for calls in BOTH {
-            assert!((calls.summarize)(word, ends).is_ok_and(wanted));
+            assert!((calls.summarize)(word, pairs).is_ok_and(wanted));
         }
     }
 }
@@ -222,15 +226,40 @@ fn comparisons_by_name() {
     }
 }
 
-/// "H with a result buffer of 2 entries is cut; with 1 it gets 4."
+/// "Refusal 4 counts both numbers, so H needs four entries": also with three it gets 4, and the buffer is as it was.
 #[test]
-fn h_with_two_entries_and_with_one() {
+fn h_with_four_entries_and_with_fewer() {
     for calls in BOTH {
-        assert_eq!((calls.icfl)(H, &mut [0; 27], &mut [0; 2]), Ok(&[5, 9][..]));
-        let (mut work, mut ends) = ([7; 28], [7; 1]);
-        assert_eq!((calls.icfl)(H, &mut work, &mut ends), Err(Refusal::SHORT_RESULT));
+        assert_eq!((calls.icfl)(H, &mut [0; 27], &mut [0; 4]), Ok(&[5, 1, 9, 2][..]));
+        for len in 0..4 {
+            let (mut work, mut pairs) = ([7; 28], [7; 4]);
+            assert_eq!((calls.icfl)(H, &mut work, &mut pairs[..len]), Err(Refusal::SHORT_RESULT));
+            assert_eq!((&work[..27], work[27], pairs), (&[0; 27][..], 7, [7; 4]));
+        }
         assert_eq!(Refusal::SHORT_RESULT.number(), 4);
-        assert_eq!((&work[..27], work[27], ends[0]), (&[0; 27][..], 7, 7));
+    }
+}
+
+/// Line 7 of H's list: "also an odd number of entries, or a count that is 0 or above its piece's length". A count that is not the
+/// strict cut's is taken, and changes nothing. Line 8 counts pairs.
+#[test]
+fn lists_for_h() {
+    for calls in BOTH {
+        for pairs in [[5, 1, 9, 1], [5, 5, 9, 4], [5, 2, 9, 2]] {
+            assert_eq!((calls.factor_at)(H, &pairs, 1), Ok(&b"cbac"[..]));
+            assert_eq!((calls.summarize)(H, &pairs), (calls.summarize)(H, &[5, 1, 9, 2]));
+            for number in [2, 3, 4] {
+                assert_eq!((calls.factor_at)(H, &pairs, number), Err(Refusal::BAD_NUMBER));
+            }
+        }
+        let odd: [&[u16]; 5] = [&[9], &[5, 9, 9], &[5, 1, 9], &[5, 1, 9, 2, 1], &[5, 1, 9, 2, 9]];
+        let counts: [&[u16]; 6] = [&[5, 0, 9, 2], &[5, 1, 9, 0], &[5, 6, 9, 2], &[5, 1, 9, 5], &[5, 1, 9, 9], &[9, 10]];
+        let ends: [&[u16]; 6] = [&[], &[5, 1], &[0, 1, 9, 2], &[9, 1, 9, 1], &[5, 1, 10, 2], &[5, 9]];
+        for list in [&odd[..], &counts, &ends].concat() {
+            assert_eq!((calls.factor_at)(H, list, 0), Err(Refusal::BAD_PAIRS), "{list:?}");
+            assert_eq!((calls.summarize)(H, list), Err(Refusal::BAD_PAIRS), "{list:?}");
+        }
+        assert_eq!(Refusal::BAD_PAIRS.number(), 7);
     }
 }
 
@@ -239,7 +268,7 @@ fn h_with_two_entries_and_with_one() {
 fn the_longest_record_and_one_byte_more() {
     fn refusals(calls: &Calls, word: &[u8]) -> [Option<u8>; 9] {
         let n = word.len();
-        let (mut work, mut result, mut breaks) = (vec![0; 3 * n], vec![0; n], vec![0; 5 * n]);
+        let (mut work, mut result, mut breaks) = (vec![0; 3 * n], vec![0; 2 * n], vec![0; 5 * n]);
         [
             (calls.find_extension)(word, &mut work).err(),
             (calls.icfl)(word, &mut work, &mut result).err(),
@@ -248,8 +277,8 @@ fn the_longest_record_and_one_byte_more() {
             (calls.lyndon_table)(word, &mut result).err(),
             (calls.runs)(word, &mut work).err(),
             (calls.compare_suffixes)(word, 0, n, 0, n - 1).err(),
-            (calls.factor_at)(word, &[n as u16], 0).err(),
-            (calls.summarize)(word, &[n as u16]).err(),
+            (calls.factor_at)(word, &[n as u16, 1], 0).err(),
+            (calls.summarize)(word, &[n as u16, 1]).err(),
         ]
         .map(|refused| refused.map(Refusal::number))
     }
@@ -274,7 +303,7 @@ fn refusals_print_their_conditions() {
         Refusal::SHORT_RESULT,
         Refusal::BAD_RANGE,
         Refusal::BAD_START,
-        Refusal::BAD_ENDS,
+        Refusal::BAD_PAIRS,
         Refusal::BAD_NUMBER,
         Refusal::MARKED_RECORD,
         Refusal::BAD_RECORD_ENDS,

@@ -8,7 +8,7 @@ use std::time::Duration;
 
 const PROGRAM: &str = concat!(env!("CARGO_MANIFEST_DIR"), "/../target/bin/list");
 const H: &[u8] = b"cbabacbac";
-const LISTING_OF_H: &str = "length=9\npieces=2\nends=5,9\nstrict=5,8,9\nlongest=5\nfrom=0\nbands=0,0,2,0,0,0,0,0,0,0,0,0,0\n";
+const LISTING_OF_H: &str = "length=9\npieces=2\nends=5:1,9:2\nstrict=5,8,9\nlongest=5\nfrom=0\nbands=0,0,2,0,0,0,0,0,0,0,0,0,0\n";
 
 fn start(input: impl Into<OwnedFd>) -> Child {
     let mut list = Command::new(PROGRAM);

@@ -1,4 +1,4 @@
-//! What requests 103 and 107 say of records with marks, bytes 255, through every implementation.
+//! What requests 103, 107 and 108 say of records with marks, bytes 255, through every implementation.
 use metsroeb::{Break, Comparison, Fate, Refusal, Run};
 use metsroeb_tests::{reference, Calls, PEER, VERIFIED};
 use std::cmp::Ordering;
@@ -6,22 +6,24 @@ use std::cmp::Ordering;
 const I: &[u8] = b"cbabacaacbabacbac";
 const BOTH: [&Calls; 2] = [&VERIFIED, &PEER];
 
-/// Their piece and strict ends, which are the same here, and their start tables.
+/// Their piece ends, each with its count, which is 1 of a mark; their strict ends; their start tables.
 #[test]
 fn records_with_marks() {
-    for (word, ends, lengths) in [
-        (&b"\xff"[..], &[1][..], &[1][..]),
-        (b"\xff\xffa", &[1, 2, 3], &[1, 1, 1]),
-        (b"ba\xffba", &[2, 3, 5], &[2, 1, 1, 2, 1]),
-        (b"a\xffab\xff\xff", &[1, 2, 3, 4, 5, 6], &[1, 1, 1, 1, 1, 1]),
-        (b"ab\xff\xffcb", &[1, 2, 3, 4, 6], &[1, 1, 1, 1, 2, 1]),
+    for (word, pairs, strict, lengths) in [
+        (&b"\xff"[..], &[1, 1][..], &[1][..], &[1][..]),
+        (b"\xff\xffa", &[1, 1, 2, 1, 3, 1], &[1, 2, 3], &[1, 1, 1]),
+        (b"ba\xffba", &[2, 1, 3, 1, 5, 1], &[2, 3, 5], &[2, 1, 1, 2, 1]),
+        (b"a\xffab\xff", &[1, 1, 2, 1, 3, 1, 4, 1, 5, 1], &[1, 2, 3, 4, 5], &[1, 1, 1, 1, 1]),
+        (b"ab\xff\xffcb", &[1, 1, 2, 1, 3, 1, 4, 1, 6, 1], &[1, 2, 3, 4, 6], &[1, 1, 1, 1, 2, 1]),
+        (b"\xffaa\xffbaba", &[1, 1, 3, 2, 4, 1, 8, 2], &[1, 2, 3, 4, 6, 8], &[1, 1, 1, 1, 2, 1, 2, 1]),
+        (b"aaa\xff\xffa", &[3, 3, 4, 1, 5, 1, 6, 1], &[1, 2, 3, 4, 5, 6], &[1, 1, 1, 1, 1, 1]),
     ] {
         let answers = (reference::icfl(word), reference::cfl_in(word), reference::lyndon_table(word));
-        assert_eq!(answers, (ends.to_vec(), ends.to_vec(), lengths.to_vec()));
+        assert_eq!(answers, (pairs.to_vec(), strict.to_vec(), lengths.to_vec()));
         for calls in BOTH {
-            let (mut work, mut result) = (vec![0; 3 * word.len()], vec![0; word.len()]);
-            assert_eq!((calls.icfl)(word, &mut work, &mut result), Ok(ends));
-            assert_eq!((calls.cfl_in)(word, &mut result), Ok(ends));
+            let (mut work, mut result) = (vec![0; 3 * word.len()], vec![0; 2 * word.len()]);
+            assert_eq!((calls.icfl)(word, &mut work, &mut result), Ok(pairs));
+            assert_eq!((calls.cfl_in)(word, &mut result), Ok(strict));
             assert_eq!((calls.lyndon_table)(word, &mut result), Ok(lengths));
         }
     }
@@ -36,12 +38,12 @@ fn breaks_of_i_beside_a_mark() {
         let joined = Break { place: from + 8, begun: from, border: 6, fate: Joined(1) };
         [joined, Break { place: from + 13, begun: from + 8, border: 3, fate: Kept(b'b', b'c') }]
     };
-    let (ends, breaks) = ([13, 17, 18, 31, 35], [step(0), step(18)].concat());
-    assert_eq!(reference::icfl_with_breaks(&word), (ends.to_vec(), breaks.clone()));
+    let (pairs, breaks) = ([13, 2, 17, 2, 18, 1, 31, 2, 35, 2], [step(0), step(18)].concat());
+    assert_eq!(reference::icfl_with_breaks(&word), (pairs.to_vec(), breaks.clone()));
     for calls in BOTH {
-        let (mut work, mut lent_ends, mut lent) = ([7; 105], [7; 5], [7; 20]);
-        let (got, considered) = (calls.icfl_with_breaks)(&word, &mut work, &mut lent_ends, &mut lent).unwrap();
-        assert_eq!(got, ends);
+        let (mut work, mut lent_pairs, mut lent) = ([7; 105], [7; 10], [7; 20]);
+        let (got, considered) = (calls.icfl_with_breaks)(&word, &mut work, &mut lent_pairs, &mut lent).unwrap();
+        assert_eq!(got, pairs);
         assert_eq!(considered.collect::<Vec<_>>(), breaks);
         assert_eq!(work, [0; 105]);
     }

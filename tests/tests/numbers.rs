@@ -1,6 +1,6 @@
 //! The numbers that the exported functions write, each with guard entries of its own: those of the crate's answer, and 0 beside
 //! a refusal. What the crate answers is held to the promise by the other tests.
-use metsroeb::{raw, Comparison, Extension, Refusal};
+use metsroeb::{raw, Comparison, Extension, Factors, Refusal};
 use metsroeb_tests::lent::Lent;
 use metsroeb_tests::words::{all_marked_words, all_words, Random};
 use std::fmt::Debug;
@@ -69,7 +69,7 @@ fn counts() {
             let mut result = vec![0; len];
             for work_len in [0, 3 * n, 3 * n + 1] {
                 let mut work = vec![0; work_len];
-                let want = metsroeb::icfl(&word, &mut work, &mut result).map(|ends| [ends.len() as u16]);
+                let want = metsroeb::icfl(&word, &mut work, &mut result).map(|pairs| [Factors::read(pairs).len() as u16]);
                 expect("metsroeb_icfl", want, entries(&mut random), |[count]| unsafe {
                     raw::metsroeb_icfl(word.as_ptr(), n, work.as_mut_ptr(), work_len, result.as_mut_ptr(), len, count)
                 });
@@ -77,7 +77,7 @@ fn counts() {
             for breaks_len in [0, 4, 5, 5 * n] {
                 let (mut work, mut breaks) = (vec![0; 3 * n], vec![0; breaks_len]);
                 let want = metsroeb::icfl_with_breaks(&word, &mut work, &mut result, &mut breaks)
-                    .map(|(ends, breaks)| [ends.len(), breaks.len()].map(|count| count as u16));
+                    .map(|(pairs, breaks)| [Factors::read(pairs).len(), breaks.len()].map(|count| count as u16));
                 expect("metsroeb_icfl_breaks", want, entries(&mut random), |[count, break_count]| unsafe {
                     raw::metsroeb_icfl_breaks(
                         word.as_ptr(),
@@ -129,18 +129,23 @@ fn sign_and_common() {
     }
 }
 
-/// Lists that are taken, and lists that are not.
+/// Paired lists that are taken, and lists that are not.
 fn lists(length: usize) -> Vec<Vec<u16>> {
     let last = length as u16;
     vec![
         vec![],
-        vec![0],
         vec![last],
-        vec![1, last],
-        vec![2, last],
+        vec![0, 0],
+        vec![last, 0],
+        vec![last, 1],
         vec![last, last],
-        (1..=last).collect(),
-        vec![last.wrapping_add(1)],
+        vec![last, last.wrapping_add(1)],
+        vec![1, 1, last, 1],
+        vec![2, 2, last, last.wrapping_sub(2)],
+        vec![2, 1, last, 1, 1],
+        vec![last, 1, last, 1],
+        (1..=last).flat_map(|end| [end, 1]).collect(),
+        vec![last.wrapping_add(1), 1],
     ]
 }
 
@@ -151,7 +156,7 @@ fn places() {
         for list in lists(word.len()) {
             for number in 0..=list.len() + 1 {
                 let want = metsroeb::factor_at(&word, &list, number).map(|part| {
-                    let end = list[number];
+                    let end = list[2 * number];
                     [end - part.len() as u16, end]
                 });
                 expect("metsroeb_factor", want, entries(&mut random), |[first, end]| unsafe {

@@ -1,6 +1,6 @@
 //! Pseudo-random words of every kind, from fixed seeds. Words of up to 200 letters go against the definitions, longer ones against
 //! the peer, which is held to the definitions on the others.
-use metsroeb::{Break, Fate, Run};
+use metsroeb::{Break, Factor, Factors, Fate, Run};
 use metsroeb_tests::agree::{self, Answers};
 use metsroeb_tests::reference::{self, SEPARATOR};
 use metsroeb_tests::words::{repeating, Random, KINDS};
@@ -133,8 +133,9 @@ fn repetitions_turned_over() {
 fn breaks_and_ends() {
     words(650, 1, 4096, &mut Random::new(0x5eed_0017), |word, _| {
         let n = word.len();
-        let (mut work, mut ends, mut breaks) = (vec![0; 3 * n], vec![0; n], vec![0; 5 * n]);
-        let (ends, breaks) = (VERIFIED.icfl_with_breaks)(&word, &mut work, &mut ends, &mut breaks).unwrap();
+        let (mut work, mut pairs, mut breaks) = (vec![0; 3 * n], vec![0; 2 * n], vec![0; 5 * n]);
+        let (pairs, breaks) = (VERIFIED.icfl_with_breaks)(&word, &mut work, &mut pairs, &mut breaks).unwrap();
+        let ends: Vec<u16> = Factors::read(pairs).map(|factor| factor.end).collect();
         let is_mark = |place: usize| word[place] == SEPARATOR;
         let mut first_of = vec![0; n]; // of the stretch of a place
         for i in 1..n {
@@ -158,8 +159,37 @@ fn breaks_and_ends() {
             }
         }
         let wanted = (1..=n).filter(|&i| is_end[i] || i == n || is_mark(i) || is_mark(i - 1)).map(|i| i as u16);
-        assert!(wanted.eq(ends.iter().copied()));
+        assert!(wanted.eq(ends));
     });
+}
+
+/// What request 108 says of the counts of any record: they add up to the length of the strict list, of which each piece has the part
+/// that it has as a record by itself. Both cuts give the same list, and the reader and the summary take it.
+#[test]
+fn counts_and_strict_ends() {
+    let mut more_than_one = 0;
+    words(650, 1, 4096, &mut Random::new(0x5eed_001b), |word, _| {
+        let n = word.len();
+        let (mut work, mut pairs, mut same, mut breaks) = (vec![0; 3 * n], vec![0; 2 * n], vec![0; 2 * n], vec![0; 5 * n]);
+        let pairs = (VERIFIED.icfl)(&word, &mut work, &mut pairs).unwrap();
+        assert_eq!((VERIFIED.icfl_with_breaks)(&word, &mut work, &mut same, &mut breaks).unwrap().0, pairs);
+        let mut alone = Vec::new(); // the strict ends of the pieces by themselves, in the record's places
+        for (number, Factor { end, anti_lyndon }) in Factors::read(pairs).enumerate() {
+            let from = alone.last().map_or(0, |&end: &u16| end.into());
+            let piece = (VERIFIED.factor_at)(&word, pairs, number).unwrap();
+            assert_eq!(piece, &word[from..end.into()]);
+            let (mut strict, from) = (vec![0; piece.len()], from as u16);
+            let strict = (VERIFIED.cfl_in)(piece, &mut strict).unwrap();
+            assert_eq!(strict.len(), anti_lyndon.into());
+            alone.extend(strict.iter().map(|&end| from + end));
+            more_than_one += usize::from(anti_lyndon > 1);
+        }
+        assert_eq!((VERIFIED.cfl_in)(&word, &mut vec![0; n]), Ok(&alone[..]));
+        let sum: usize = Factors::read(pairs).map(|factor| usize::from(factor.anti_lyndon)).sum();
+        assert_eq!(sum, alone.len());
+        assert_eq!((VERIFIED.summarize)(&word, pairs).map(|summary| summary.count.into()), Ok(Factors::read(pairs).len()));
+    });
+    assert!(more_than_one > 10_000, "{more_than_one}");
 }
 
 /// The tests reach what they are meant to reach: breaks that are joined, also one inside another, and behind a mark.

@@ -1,8 +1,8 @@
 //! Every line of paper 01's table at its boundaries, alone and together with faults of other lines: the earlier line wins.
 use metsroeb_tests::agree::{self, Answers};
-use metsroeb_tests::reference::SEPARATOR;
-use metsroeb_tests::words::{all_words, Random};
-use metsroeb_tests::{PEER, VERIFIED};
+use metsroeb_tests::reference::{parts, SEPARATOR};
+use metsroeb_tests::words::{all_divisions, all_words, with_counts, Random};
+use metsroeb_tests::{promise, PEER, VERIFIED};
 
 /// Records at the boundaries of lines 1 and 2, also where 16 bits overflow, with the answers for those that are accepted: over one
 /// letter, two, and all but the mark; then of marks alone, and with a mark as the last byte alone.
@@ -39,13 +39,14 @@ fn records_and_buffers() {
         for calls in [&VERIFIED, &PEER] {
             for work_len in sizes(&[n, 3 * n]) {
                 agree::find_extension(calls, &word, &answers, work_len, &mut random);
-                for ends_len in sizes(&[answers.icfl.len(), n]) {
-                    agree::icfl(calls, &word, &answers, work_len, ends_len, &mut random);
+                let (entries, pieces) = (answers.icfl.len(), answers.icfl.len() / 2);
+                for pairs_len in sizes(&[entries, pieces, 2 * n]) {
+                    agree::icfl(calls, &word, &answers, work_len, pairs_len, &mut random);
                 }
                 let short_and_enough = |needed: usize| [0, needed.saturating_sub(1), needed];
-                for ends_len in short_and_enough(answers.icfl.len()) {
+                for pairs_len in short_and_enough(entries).into_iter().chain([pieces]) {
                     for breaks_len in short_and_enough(5 * answers.breaks.len()) {
-                        agree::icfl_with_breaks(calls, &word, &answers, [work_len, ends_len, breaks_len], &mut random);
+                        agree::icfl_with_breaks(calls, &word, &answers, [work_len, pairs_len, breaks_len], &mut random);
                     }
                 }
             }
@@ -90,35 +91,76 @@ fn ranges_and_starts() {
     }
 }
 
-/// Every list of up to 5 ends from 0 to 5 for records of up to 5 letters, with every number about its count.
+/// Every list of up to 6 entries from 0 to 4 for records of up to 4 letters, with a number about its pairs, the first past them, and
+/// the largest.
 #[test]
 fn short_lists() {
     let mut random = Random::new(0x5eed_0024);
-    for length in 0..=5 {
+    for length in 0..=4 {
         let word = vec![7; length];
-        for list in (0..=5).flat_map(|count| all_words(6, count)) {
+        for list in (0..=6).flat_map(|count| all_words(5, count)) {
             let list: Vec<u16> = list.iter().map(|&letter| (letter - b'a') as u16).collect();
-            for number in [0, 1, list.len().saturating_sub(1), list.len(), usize::MAX] {
-                agree::factor_at(&VERIFIED, &word, &list, number, &mut random);
+            let number = random.below(list.len() / 2 + 2);
+            for calls in [&VERIFIED, &PEER] {
+                for number in [number, list.len() / 2, usize::MAX] {
+                    agree::factor_at(calls, &word, &list, number, &mut random);
+                }
+                agree::summarize(calls, &word, &list, &mut random);
             }
-            agree::summarize(&VERIFIED, &word, &list, &mut random);
-            agree::factor_at(&PEER, &word, &list, 0, &mut random);
-            agree::summarize(&PEER, &word, &list, &mut random);
         }
     }
 }
 
-/// Lists with one fault at their first, a middle or their last entry, beside records and numbers at their boundaries.
+/// Every division of records of up to 9 letters, with one count at its boundaries, the others anywhere between theirs; an entry too
+/// few, which leaves a lone end, and one too many. Line 7 takes a count from 1 to its part's length, whatever the strict cut has.
+#[test]
+fn counts_and_odd_lists() {
+    fn expect(word: &[u8], list: &[u16], refused: bool, random: &mut Random) {
+        assert_eq!(promise::summarize(word.len(), list).err(), refused.then_some(7));
+        for calls in [&VERIFIED, &PEER] {
+            agree::summarize(calls, word, list, random);
+            for number in 0..=list.len() {
+                agree::factor_at(calls, word, list, number, random);
+            }
+        }
+    }
+    let mut random = Random::new(0x5eed_0026);
+    for length in 1..=9 {
+        let word = vec![b'a'; length];
+        for ends in all_divisions(length) {
+            let list = with_counts(&ends, &mut random);
+            expect(&word, &list, false, &mut random);
+            for (k, (from, end)) in parts(&ends).into_iter().enumerate() {
+                let most = end - from;
+                for (count, refused) in [(0, true), (1, false), (most, false), (most + 1, true), (65_535, true)] {
+                    let mut list = list.clone();
+                    list[2 * k + 1] = count;
+                    expect(&word, &list, refused, &mut random);
+                }
+            }
+            expect(&word, &list[..list.len() - 1], true, &mut random);
+            for entry in [1, length as u16, length as u16 + 1] {
+                expect(&word, &[&list[..], &[entry]].concat(), true, &mut random);
+            }
+        }
+    }
+}
+
+/// Lists with one fault at the end or the count of their first, a middle or their last pair, beside records and numbers at their
+/// boundaries.
 #[test]
 fn long_lists() {
     let mut random = Random::new(0x5eed_0025);
     for (word, _) in records() {
         let n = word.len();
         let last = n.min(65_535) as u16;
-        let every: Vec<u16> = (1..=last).collect();
-        let mut lists = vec![vec![], vec![last], vec![0, last], vec![last, last], vec![last; 3], vec![65_535], every.clone()];
-        for place in [0, every.len() / 2, every.len().saturating_sub(1)] {
-            for entry in [0, 1, last, last.wrapping_add(1), last.wrapping_sub(1), 65_535] {
+        let every: Vec<u16> = (1..=last).flat_map(|end| [end, 1]).collect();
+        let mut lists =
+            vec![vec![], vec![last], vec![last, 0], vec![last, 1], vec![last, last], vec![last, last.wrapping_add(1)]];
+        lists.extend([vec![0, 1, last, 1], vec![last, 1, last, 1], vec![last; 3], vec![65_535, 1], every.clone()]);
+        for pair in [0, every.len() / 4, (every.len() / 2).saturating_sub(1)] {
+            let end = [0, 1, last, last.wrapping_add(1), last.wrapping_sub(1), 65_535].map(|entry| (2 * pair, entry));
+            for (place, entry) in end.into_iter().chain([0, 2, 65_535].map(|entry| (2 * pair + 1, entry))) {
                 let mut list = every.clone();
                 if place < list.len() {
                     list[place] = entry;
@@ -127,7 +169,7 @@ fn long_lists() {
             }
         }
         for list in lists {
-            for number in [0, list.len() / 2, list.len().saturating_sub(1), list.len(), usize::MAX] {
+            for number in [0, list.len() / 4, (list.len() / 2).saturating_sub(1), list.len() / 2, usize::MAX] {
                 agree::factor_at(&VERIFIED, &word, &list, number, &mut random);
             }
             agree::summarize(&VERIFIED, &word, &list, &mut random);

@@ -3,20 +3,13 @@
 use metsroeb::Run;
 use metsroeb_tests::agree::{self, Answers};
 use metsroeb_tests::reference;
-use metsroeb_tests::words::{all_marked_words, all_words, Random};
+use metsroeb_tests::words::{all_divisions, all_marked_words, all_words, with_counts, Random};
 use metsroeb_tests::{Calls, PEER, PEER_BY_EIGHTS, VERIFIED};
 
 fn short_words() -> impl Iterator<Item = Vec<u8>> {
     let two = (1..=9).flat_map(|length| all_words(2, length));
     let three = (1..=7).flat_map(|length| all_words(3, length));
     two.chain(three).chain((1..=6).flat_map(|length| all_marked_words(3, length)))
-}
-
-/// All rising lists of ends of a record of `length` letters.
-fn all_divisions(length: usize) -> impl Iterator<Item = Vec<u16>> {
-    (0..1usize << (length - 1)).map(move |chosen| {
-        (1..=length).filter(|&end| end == length || chosen >> (end - 1) & 1 == 1).map(|end| end as u16).collect()
-    })
 }
 
 fn all_calls(calls: &Calls) {
@@ -27,14 +20,16 @@ fn all_calls(calls: &Calls) {
         for work_len in [n - 1, n, n + 1] {
             agree::find_extension(calls, &word, &answers, work_len, &mut random);
         }
-        for ends_len in 0..=n + 1 {
+        for pairs_len in 0..=2 * n + 1 {
             for work_len in [3 * n - 1, 3 * n, 3 * n + 1] {
-                agree::icfl(calls, &word, &answers, work_len, ends_len, &mut random);
+                agree::icfl(calls, &word, &answers, work_len, pairs_len, &mut random);
                 let needed = 5 * answers.breaks.len();
                 for breaks_len in [0, needed.saturating_sub(1), needed, needed + 1, 5 * n] {
-                    agree::icfl_with_breaks(calls, &word, &answers, [work_len, ends_len, breaks_len], &mut random);
+                    agree::icfl_with_breaks(calls, &word, &answers, [work_len, pairs_len, breaks_len], &mut random);
                 }
             }
+        }
+        for ends_len in 0..=n + 1 {
             agree::cfl_in(calls, &word, &answers, ends_len, &mut random);
             agree::lyndon_table(calls, &word, &answers, ends_len, &mut random);
         }
@@ -117,20 +112,33 @@ fn comparison() {
     }
 }
 
-/// Every accepted list for records of up to 12 letters, with every number.
+/// Every list of ends that is accepted for records of up to 12 letters, with any counts that are, and every number about theirs.
 #[test]
 fn reader_and_summary() {
     let mut random = Random::new(0x5eed_0003);
     for length in 1..=12 {
         let word = vec![b'a'; length];
-        for list in all_divisions(length) {
+        for ends in all_divisions(length) {
+            let list = with_counts(&ends, &mut random);
             for calls in [&VERIFIED, &PEER] {
                 agree::summarize(calls, &word, &list, &mut random);
-                for number in 0..=list.len() {
+                for number in 0..=ends.len() + 1 {
                     agree::factor_at(calls, &word, &list, number, &mut random);
                 }
             }
         }
+    }
+}
+
+/// What request 108 says of the reference's pairs, where the strict cut is the definition's only one: a piece by itself has as many
+/// strict pieces as its count says.
+#[test]
+fn counts_of_pieces_alone() {
+    for word in short_words() {
+        let pairs = reference::icfl(&word);
+        let parts = reference::parts(&reference::ends_of(&pairs)).into_iter();
+        let alone = parts.map(|(from, end)| reference::cfl_in(&word[from.into()..end.into()]).len() as u16);
+        assert!(alone.eq(pairs.iter().skip(1).step_by(2).copied()));
     }
 }
 

@@ -1,13 +1,11 @@
 //! The groups of records, and the calls that are made on each.
 use naive::BREAK_ENTRIES;
 use naive::Call;
-use naive::PAIR_ENTRIES;
 use naive::RUN_ENTRIES;
-use naive::entry;
 use naive::front;
+use naive::pair_with_ones;
 use naive::plus;
 use naive::set_letter;
-use naive::store;
 use samples::LISTS;
 use samples::Run;
 use samples::random_record;
@@ -56,47 +54,41 @@ fn write_record(group: Group, i: usize, word: &mut [u8], run: &mut Run) -> usize
     }
 }
 
-// Cases of a call that goes by ends, and is lent no buffers.
-fn try_by_ends(call: Call, many: usize, word: &[u8], ends: &[u16], run: &mut Run) {
-    try_cases(call, false, many, word, ends, front(ends, 0), run);
+// Cases of a call that goes by pairs, and is lent no buffers.
+fn try_by_pairs(call: Call, many: usize, word: &[u8], pairs: &[u16], run: &mut Run) {
+    try_cases(call, false, many, word, pairs, front(pairs, 0), run);
 }
 
-// What goes by the pairs of the piece cut or of the strict cut: the reader and the summary.
-fn on_ends(word: &[u8], pairs: &[u16], run: &mut Run) {
-    try_by_ends(Call::Part, pairs.len() / 2, word, pairs, run);
-    try_by_ends(Call::Summary, 1, word, pairs, run);
+// What goes by the pieces or by the strict pieces: the reader and the summary.
+fn on_parts(word: &[u8], pairs: &[u16], run: &mut Run) {
+    try_by_pairs(Call::Part, pairs.len() / 2, word, pairs, run);
+    try_by_pairs(Call::Summary, 1, word, pairs, run);
 }
 
-// The strict cut's ends, 1 beside each.
-fn on_strict(word: &[u8], ends: &[u16], run: &mut Run) {
-    let mut pairs = [1u16; PAIR_ENTRIES];
-    let mut i: usize = 0;
-    while i < ends.len() {
-        store(&mut pairs, plus(i, i), entry(ends, i));
-        i += 1;
-    }
-    on_ends(word, front(&pairs, plus(i, i)), run);
+// What goes by the strict pieces: the list of their ends, so many, is paired first.
+fn on_strict(word: &[u8], list: &mut [u16], count: usize, run: &mut Run) {
+    let entries = pair_with_ones(list, count);
+    on_parts(word, front(list, entries), run);
 }
 
-// What goes by the ends of the piece cut: the comparison too, which has 8 ranges of its own and 4 of whole pieces.
-fn on_pieces(word: &[u8], ends: &[u16], run: &mut Run) {
-    on_ends(word, ends, run);
-    try_by_ends(Call::Compare, 12, word, ends, run);
-    try_by_ends(Call::Common, 4, word, ends, run);
+// What goes by the pieces: the comparison too, which has 8 ranges of its own and 4 of whole pieces.
+fn on_pieces(word: &[u8], pairs: &[u16], run: &mut Run) {
+    on_parts(word, pairs, run);
+    try_by_pairs(Call::Compare, 12, word, pairs, run);
+    try_by_pairs(Call::Common, 4, word, pairs, run);
 }
 
-// The first cases of one call, and what goes by its ends.
+// The first cases of one call, and what goes by the parts that it gives.
 fn on_call(call: Call, limits: bool, many: usize, word: &[u8], run: &mut Run) {
     let mut list = [0u16; RUN_ENTRIES];
     let mut breaks = [0u16; BREAK_ENTRIES];
     let found = naive::answer(call, word, &mut list, &mut breaks);
-    let ends = front(&list, found.list);
     try_cases(
         call,
         limits,
         many,
         word,
-        ends,
+        front(&list, found.list),
         front(&breaks, found.breaks),
         run,
     );
@@ -104,8 +96,8 @@ fn on_call(call: Call, limits: bool, many: usize, word: &[u8], run: &mut Run) {
         return;
     }
     match call {
-        Call::Strict => on_strict(word, ends, run),
-        Call::Pieces => on_pieces(word, ends, run),
+        Call::Strict => on_strict(word, &mut list, found.list, run),
+        Call::Pieces => on_pieces(word, front(&list, found.list), run),
         _ => {}
     }
 }

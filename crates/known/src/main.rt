@@ -3,8 +3,9 @@
 mod batches; // cards of records
 mod breaks; // the piece cut with its breaks
 mod comparisons; // two starts: the sign, and how far they agree
+mod lists; // lists for the reader and the summary
 mod marks; // records with marks
-mod printing; // lists of numbers, refusals and answers
+mod printing; // lists of numbers and of pairs, refusals and answers
 mod refusals; // the refusals of every call
 mod repetitions; // the maximal repetitions
 
@@ -15,30 +16,32 @@ use checks::MOST;
 use comparisons::print_comparisons;
 use extension::Extension;
 use libc::STDOUT_FILENO;
+use lists::print_lists;
 use marks::print_marks;
 use naive::store_three;
 use printing::print_answer;
 use printing::print_list;
+use printing::print_pieces;
 use refusals::print_refusals;
 use repetitions::print_repetitions;
 
-// The piece ends, with so many entries lent for them as `ends` has.
-fn print_pieces(name: &[u8], word: &[u8], ends: &mut [u16]) {
+// The pieces, with so many entries lent for them as `pairs` has.
+fn print_cut(name: &[u8], word: &[u8], pairs: &mut [u16]) {
     let mut work = [0u16; 3 * MOST];
-    let answer = icfl::icfl(word, &mut work, ends);
-    print_answer(name, answer, ends);
+    let answer = icfl::icfl(word, &mut work, pairs);
+    print_pieces(name, answer, pairs);
 }
 
-// A record that is an argument of the program, with its piece ends and its strict ends.
+// A record that is an argument of the program, with its pieces and its strict ends.
 fn print_cuts(argument: usize) {
     let mut text = io::buffer();
     let length = os::arg(argument, &mut text);
     let word = &text[..length];
-    let mut ends = [0u16; MOST];
+    let mut list = [0u16; 2 * MOST];
     io::write_all(STDOUT_FILENO, word);
-    print_pieces(b" pieces=", word, &mut ends);
-    let answer = cfl::cfl_in(word, &mut ends);
-    print_answer(b" strict=", answer, &ends);
+    print_cut(b" pieces=", word, &mut list);
+    let answer = cfl::cfl_in(word, &mut list);
+    print_answer(b" strict=", answer, &list);
     io::write_all(STDOUT_FILENO, b"\n");
 }
 
@@ -77,17 +80,17 @@ fn print_starts() {
     print_answer(b"H starts=", answer, &lengths);
 }
 
-// The pieces of H, with as many entries lent as it has pieces, and with one fewer.
+// The pieces of H, with as many entries lent as it needs, two for each piece, and with one fewer.
 fn print_room() {
-    let mut two = [0u16; 2];
-    let mut one = [0u16; 1];
-    print_pieces(b"\nH with 2 entries pieces=", b"cbabacbac", &mut two);
-    print_pieces(b"\nH with 1 entry pieces=", b"cbabacbac", &mut one);
+    let mut four = [0u16; 4];
+    let mut three = [0u16; 3];
+    print_cut(b"\nH with 4 entries pieces=", b"cbabacbac", &mut four);
+    print_cut(b"\nH with 3 entries pieces=", b"cbabacbac", &mut three);
     io::write_all(STDOUT_FILENO, b"\n");
 }
 
-// The table, what is said of H and I and of ranges, breaks, marks, repetitions, and the refusals of a record with a mark, at the greatest length and one
-// above it.
+// The table, what is said of H and I and of ranges, breaks, marks, cards, repetitions and lists, and the refusals of a record with a mark, at the greatest
+// length and one above it.
 fn main() {
     print_table();
     print_starts();
@@ -100,8 +103,9 @@ fn main() {
     print_marks();
     print_batches();
     print_repetitions();
-    print_refusals(b"ba, a mark: ", b"ba\xff", &[3]);
+    print_lists();
+    print_refusals(b"ba, a mark: ", b"ba\xff", &[3, 1]);
     let word = [97u8; MOST + 1];
-    print_refusals(b"4096 letters: ", &word[..MOST], &[4096]);
-    print_refusals(b"4097 letters: ", &word, &[4097]);
+    print_refusals(b"4096 letters: ", &word[..MOST], &[4096, 1]);
+    print_refusals(b"4097 letters: ", &word, &[4097, 1]);
 }

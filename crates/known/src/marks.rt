@@ -2,17 +2,18 @@
 use super::breaks::print_reasons;
 use super::printing::print_answer;
 use super::printing::print_list;
+use super::printing::print_pieces;
 use super::printing::print_refusal;
 use extension::Extension;
 use libc::STDOUT_FILENO;
 
-// The piece ends, the strict ends and the start table of a record of up to six letters.
+// The pieces, the strict ends and the start table of a record of up to six letters.
 fn print_cuts(name: &[u8], word: &[u8]) {
     let mut work = [0u16; 18];
-    let mut list = [0u16; 6];
+    let mut list = [0u16; 12];
     let answer = icfl::icfl(word, &mut work, &mut list);
     io::write_all(STDOUT_FILENO, name);
-    print_answer(b"pieces=", answer, &list);
+    print_pieces(b"pieces=", answer, &list);
     let answer = cfl::cfl_in(word, &mut list);
     print_answer(b" strict=", answer, &list);
     let answer = table::lyndon_table(word, &mut list);
@@ -39,9 +40,9 @@ pub fn print_marks() {
     print_cuts(b"a, a mark, ab, two marks: ", b"a\xffab\xff\xff");
     print_cuts(b"Three marks: ", b"\xff\xff\xff");
     let twice = b"cbabacaacbabacbac\xffcbabacaacbabacbac";
-    let mut ends = [0u16; 5];
+    let mut pairs = [0u16; 10];
     let mut breaks = [0u16; 20];
-    print_reasons(b"I, a mark, I: ", twice, &mut ends, &mut breaks);
+    print_reasons(b"I, a mark, I: ", twice, &mut pairs, &mut breaks);
     let mut five = [7u16; 5];
     let mut four = [7u16; 4];
     print_test(b"Test of ba, a mark, ba: ", b"ba\xffba", &mut five);

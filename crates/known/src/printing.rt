@@ -1,8 +1,10 @@
-//! Lists of numbers, refusals and answers, as the lines have them.
+//! Lists of numbers and of pairs, refusals and answers, as the lines have them.
 use checks::Counted;
 use libc::STDOUT_FILENO;
 use naive::entry;
 use naive::front;
+use naive::part_count;
+use naive::part_end;
 use naive::plus;
 
 /// Numbers with commas between them.
@@ -14,6 +16,20 @@ pub fn print_list(list: &[u16]) {
         }
         io::print_decimal(STDOUT_FILENO, entry(list, i) as u64);
         i += 1;
+    }
+}
+
+/// So many pairs with commas between them, each as the listing has it: the end, a colon, the count.
+pub fn print_pairs(pairs: &[u16], count: usize) {
+    let mut k: usize = 0;
+    while k < count {
+        if 0 < k {
+            io::write_all(STDOUT_FILENO, b",");
+        }
+        io::print_decimal(STDOUT_FILENO, part_end(pairs, k) as u64);
+        io::write_all(STDOUT_FILENO, b":");
+        io::print_decimal(STDOUT_FILENO, part_count(pairs, k) as u64);
+        k += 1;
     }
 }
 
@@ -52,6 +68,15 @@ pub fn print_answer(name: &[u8], answer: Counted, list: &[u16]) {
     io::write_all(STDOUT_FILENO, name);
     match answer {
         Counted::Count(count) => print_list(front(list, count)),
+        Counted::Refused(number) => print_refusal(number),
+    }
+}
+
+/// The piece cut's answer: its pairs, or the refusal's number.
+pub fn print_pieces(name: &[u8], answer: Counted, pairs: &[u16]) {
+    io::write_all(STDOUT_FILENO, name);
+    match answer {
+        Counted::Count(count) => print_pairs(pairs, count),
         Counted::Refused(number) => print_refusal(number),
     }
 }

@@ -16,9 +16,9 @@ fn refusal(answer: Counted) -> u16 {
 }
 
 // The same of the piece cut with breaks, lent no entry for these.
-fn refusal_beside(word: &[u8], work: &mut [u16], ends: &mut [u16]) -> u16 {
+fn refusal_beside(word: &[u8], work: &mut [u16], pairs: &mut [u16]) -> u16 {
     let mut none = [0u16; 0];
-    match icfl::icfl_with_breaks(word, work, ends, &mut none) {
+    match icfl::icfl_with_breaks(word, work, pairs, &mut none) {
         CountedBreaks::Counts { .. } => 0,
         CountedBreaks::Refused(number) => number as u16,
     }
@@ -41,14 +41,14 @@ fn print_lent_refusals(word: &[u8]) {
 }
 
 /// The refusal's number of every call, 0 for a result: of those that are lent buffers, then of comparison, reader and summary.
-pub fn print_refusals(name: &[u8], word: &[u8], ends: &[u16]) {
+pub fn print_refusals(name: &[u8], word: &[u8], pairs: &[u16]) {
     let compared = match compare::compare_suffixes(word, 0, word.len(), 0, 0) {
         Comparison::Refused(number) => number,
         Comparison::Order { .. } => 0,
     };
     let mut told: u8 = 0;
-    reading::factor_at(word, ends, 0, &mut told);
-    let summary = summary::summarize(word, ends);
+    reading::factor_at(word, pairs, 0, &mut told);
+    let summary = summary::summarize(word, pairs);
     io::write_all(STDOUT_FILENO, name);
     print_lent_refusals(word);
     io::write_all(STDOUT_FILENO, b",");

@@ -6,7 +6,7 @@ pub const ENTRIES: usize = 4110;
 /// Room for the breaks of such a record, five entries each.
 pub const BREAK_ENTRIES: usize = 5 * ENTRIES;
 
-/// Room for its pieces, two entries each.
+/// Room for its pairs, two entries each.
 pub const PAIR_ENTRIES: usize = 2 * ENTRIES;
 
 /// Room for its maximal repetitions, three entries each, which are fewer than its letters.

@@ -56,22 +56,20 @@ pub fn batch_refusal(n: usize, record_ends: &[u32]) -> u8 {
     }
 }
 
-// What a single call answers: the refusal's number, how many ends it writes, and how many work entries it clears.
+// What a single call does: the refusal's number, how many result entries it writes, and how many work entries it clears.
 struct Reply {
     refusal: u8,
-    count: usize,
-    used: usize,
+    entries: usize,
     cleared: usize,
 }
 
-// The single call, with so many work entries and with what is left of so many result entries. Its ends stand in the list from entry `used` on.
+// The single call, with so many work entries and with what is left of so many result entries. Its pairs stand in the list from entry `used` on.
 fn cut_record(word: &[u8], room: usize, space: usize, list: &mut [u16], used: usize) -> Reply {
     let mut none = [0u16; 0];
     if list.len() < used {
         return Reply {
             refusal: 99,
-            count: 0,
-            used: 0,
+            entries: 0,
             cleared: 0,
         };
     }
@@ -85,13 +83,12 @@ fn cut_record(word: &[u8], room: usize, space: usize, list: &mut [u16], used: us
     let is_cut = refusal == 0 || refusal == 4;
     Reply {
         refusal,
-        count: if refusal == 0 { needed.list / 2 } else { 0 },
-        used: if refusal == 0 { needed.list } else { 0 },
+        entries: if refusal == 0 { needed.list } else { 0 },
         cleared: if is_cut { needed.work } else { 0 },
     }
 }
 
-// The record at place k: two entries of `replies` tell its refusal's number and its count.
+// The record at place k: two entries of `replies` tell its refusal's number and its count of pieces.
 fn cut_place(
     bytes: &[u8],
     record_ends: &[u32],
@@ -105,7 +102,7 @@ fn cut_place(
     let word = part(bytes, from, record_end(record_ends, k));
     let reply = cut_record(word, lent.work, lent.list, list, used);
     store(replies, plus(k, k), reply.refusal as usize);
-    store(replies, plus(plus(k, k), 1), reply.count);
+    store(replies, plus(plus(k, k), 1), reply.entries / 2);
     reply
 }
 
@@ -121,7 +118,7 @@ pub struct Outcome {
     pub cleared: usize,
 }
 
-/// Writes the ends of the records of a card, and two entries of `replies` for each, where so many entries of its buffers are lent.
+/// Writes the pairs of the records of a card, and two entries of `replies` for each, where so many entries of its buffers are lent.
 pub fn cut_batch(
     bytes: &[u8],
     record_ends: &[u32],
@@ -142,7 +139,7 @@ pub fn cut_batch(
     }
     while k < record_ends.len() {
         let reply = cut_place(bytes, record_ends, k, lent, list, used, replies);
-        used = plus(used, reply.used);
+        used = plus(used, reply.entries);
         cleared = larger(cleared, reply.cleared);
         k += 1;
     }

@@ -9,7 +9,8 @@ mod pieces; // the piece cut by its recursive definition
 mod fold; // the piece cut as a fold over the strict cut
 mod breaks; // the breaks of the piece cut, step by step
 mod repetitions; // the maximal repetitions, by their ends and by their periods
-mod parts; // the parts that a list of ends marks, and their summary
+mod parts; // the parts that a paired list marks, and their summary
+mod pairing; // paired lists made of lists of ends
 mod calls; // the calls by name, and the lists that they answer on a record without marks
 mod stretches; // the same on records with marks, stretch by stretch
 mod refusals; // the table of refusals
@@ -42,11 +43,15 @@ pub use order::Compared;
 pub use order::common;
 pub use order::compare_parts;
 pub use order::compare_words;
+pub use pairing::pair_with_ones;
 pub use parts::in_band;
 pub use parts::latest;
 pub use parts::longest;
+pub use parts::part_count;
 pub use parts::part_end;
+pub use parts::part_length;
 pub use parts::part_start;
+pub use parts::set_count;
 pub use refusals::lent_refusal;
 pub use refusals::part_refusal;
 pub use refusals::range_refusal;

@@ -1,24 +1,32 @@
-//! The parts that a paired list marks, each number of their summary by a pass of its own.
+//! The parts that a paired list marks, an end and a count each; every number of their summary by a pass of its own.
 use super::access::entry;
 use super::access::minus;
 use super::access::plus;
-
-/// Where part k begins.
-pub fn part_start(pairs: &[u16], k: usize) -> usize {
-    if k == 0 {
-        0
-    } else {
-        entry(pairs, plus(k - 1, k - 1))
-    }
-}
+use super::access::store;
 
 /// Where part k ends.
 pub fn part_end(pairs: &[u16], k: usize) -> usize {
     entry(pairs, plus(k, k))
 }
 
-fn part_length(pairs: &[u16], k: usize) -> usize {
+/// Where part k begins.
+pub fn part_start(pairs: &[u16], k: usize) -> usize {
+    if k == 0 { 0 } else { part_end(pairs, k - 1) }
+}
+
+/// The length of part k, 0 where it ends before it begins.
+pub fn part_length(pairs: &[u16], k: usize) -> usize {
     minus(part_end(pairs, k), part_start(pairs, k))
+}
+
+/// The count of part k.
+pub fn part_count(pairs: &[u16], k: usize) -> usize {
+    entry(pairs, plus(plus(k, k), 1))
+}
+
+/// Stores the count of part k.
+pub fn set_count(pairs: &mut [u16], k: usize, count: usize) {
+    store(pairs, plus(plus(k, k), 1), count);
 }
 
 /// The greatest length of a part.

@@ -1,10 +1,10 @@
 //! Paper 01's table of refusals, with the lines that requests add. Each function gives the number of the first line that is met, 0 for none.
-use super::access::entry;
-use super::access::minus;
-use super::access::plus;
 use super::calls::Call;
 use super::calls::Room;
+use super::parts::part_count;
 use super::parts::part_end;
+use super::parts::part_length;
+use super::parts::part_start;
 use super::stretches::refuses_separator;
 
 // A line of the table: its number where it is met, else what the lines below it say.
@@ -34,21 +34,22 @@ pub fn range_refusal(n: usize, first: usize, end: usize, start: usize, other: us
     record_lines(n, line(end <= first || n < end, 5, line(outside, 6, 0)))
 }
 
-// Whether line 7 is met: the list is empty or has an odd number of entries, an end is not above the one before it, the first not above 0, or the last is not
-// n; or a count is 0 or above the length of its part.
+// Whether part k is at fault: its end is not above the one before, or for the first part not above 0; or its count is 0 or above its length.
+fn is_no_part(pairs: &[u16], k: usize) -> bool {
+    let count = part_count(pairs, k);
+    part_end(pairs, k) <= part_start(pairs, k) || count == 0 || part_length(pairs, k) < count
+}
+
+// Whether line 7 is met: the list is empty or has an odd number of entries, a part is at fault, or the last end is not n.
 fn is_no_list(pairs: &[u16], n: usize) -> bool {
-    let mut from: usize = 0;
     let mut k: usize = 0;
     while k < pairs.len() / 2 {
-        let end = part_end(pairs, k);
-        let count = entry(pairs, plus(plus(k, k), 1));
-        if end <= from || count == 0 || minus(end, from) < count {
+        if is_no_part(pairs, k) {
             return true;
         }
-        from = end;
         k += 1;
     }
-    pairs.len() == 0 || pairs.len() % 2 == 1 || from != n
+    pairs.len() == 0 || pairs.len() % 2 == 1 || part_start(pairs, k) != n
 }
 
 /// The summary.
@@ -58,12 +59,6 @@ pub fn summary_refusal(n: usize, pairs: &[u16]) -> u8 {
 
 /// The reader.
 pub fn part_refusal(n: usize, pairs: &[u16], number: usize) -> u8 {
-    record_lines(
-        n,
-        line(
-            is_no_list(pairs, n),
-            7,
-            line(pairs.len() / 2 <= number, 8, 0),
-        ),
-    )
+    let numbered = line(pairs.len() / 2 <= number, 8, 0);
+    record_lines(n, line(is_no_list(pairs, n), 7, numbered))
 }

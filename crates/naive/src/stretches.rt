@@ -11,6 +11,7 @@ use super::calls::Room;
 use super::calls::breaks_of;
 use super::calls::list_of;
 use super::calls::needed;
+use super::pairing::pair_with_strict;
 
 /// The mark.
 pub const SEPARATOR: u8 = 255;
@@ -155,45 +156,16 @@ fn write_list(call: Call, entries: Entries, word: &[u8], defined: bool, list: &m
     count
 }
 
-// How many of the strict ends lie after one place, and not after another.
-fn strict_inside(stricts: &[u16], from: usize, end: usize) -> usize {
-    let mut inside: usize = 0;
-    let mut i: usize = 0;
-    while i < stricts.len() {
-        let strict = entry(stricts, i);
-        if from < strict && strict <= end {
-            inside = plus(inside, 1);
+// Puts beside each end the number of strict pieces inside, where the call answers pieces; any other list stays. Answers how many entries there are.
+fn pair_pieces(call: Call, word: &[u8], defined: bool, list: &mut [u16], count: usize) -> usize {
+    let mut strict = [0u16; ENTRIES];
+    let many = match call {
+        Call::Pieces | Call::Breaks => {
+            write_list(Call::Strict, Entries::Ends, word, defined, &mut strict)
         }
-        i += 1;
-    }
-    inside
-}
-
-// Puts beside each of so many ends how many of the strict ones lie in its piece, from the last to the first. Answers how many entries there are.
-fn pair_up(list: &mut [u16], count: usize, stricts: &[u16]) -> usize {
-    let mut i = count;
-    while 0 < i {
-        i -= 1;
-        let end = entry(list, i);
-        let from = if i == 0 { 0 } else { entry(list, i - 1) };
-        store(list, plus(i, i), end);
-        store(list, plus(plus(i, i), 1), strict_inside(stricts, from, end));
-    }
-    plus(count, count)
-}
-
-// The same of a record, where the call answers pairs; of any other nothing.
-fn pair_record(call: Call, word: &[u8], defined: bool, list: &mut [u16], count: usize) -> usize {
-    let paired = match call {
-        Call::Pieces | Call::Breaks => true,
-        _ => false,
+        _ => return count,
     };
-    if !paired {
-        return count;
-    }
-    let mut stricts = [0u16; ENTRIES];
-    let many = write_list(Call::Strict, Entries::Ends, word, defined, &mut stricts);
-    pair_up(list, count, front(&stricts, many))
+    pair_with_strict(list, count, front(&strict, many))
 }
 
 // Writes what a call answers, each stretch by the definitions (`defined`) or in the faster ways; nothing for a record that it refuses for a mark.
@@ -207,10 +179,10 @@ fn write_answer(
     if refuses_separator(call, word) {
         return needed(call, word.len(), 0, 0);
     }
-    let alone = write_list(call, entries_of(call), word, defined, list);
-    let count = pair_record(call, word, defined, list, alone);
+    let count = write_list(call, entries_of(call), word, defined, list);
+    let entries = pair_pieces(call, word, defined, list, count);
     let beside = write_list(call, Entries::Breaks, word, defined, breaks);
-    needed(call, word.len(), count, beside)
+    needed(call, word.len(), entries, beside)
 }
 
 /// Writes what a call that is lent buffers answers, nothing for the others. Answers the entries that it needs.

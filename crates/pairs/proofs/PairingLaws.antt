@@ -12,11 +12,15 @@ use Rattle.buffers.proofs.PartLaws.{part, part-is}
 use Rattle.words.specs.Separated.{separatedIcflEnds, separatedCflInEnds}
 use Rattle.words.specs.Pairs.{endsInside, pairsFrom, separatedPairs}
 use Rattle.words.specs.Statements.{Adjacent, here, there, Part}
-use Rattle.words.specs.places.EndsRise.{rises-inside}
+use Rattle.words.specs.places.EndsRise.{rises-inside, rises-few, rises-some}
 use Rattle.words.specs.places.Parts.{rises-adjacent}
 use Rattle.words.specs.stretches.Factors.{separated-icfl-ends-rise, separated-cfl-in-ends-rise}
 use Rattle.words.specs.stretches.StrictInside.{inside-few}
 use Rattle.words.specs.stretches.RecordPairs.{pairs-entries, count-alone}
+
+-- a letter alone has one anti-Lyndon factor
+pub one-letter : (w : List ℕ) → length w ≡ 1 → 1 ≡ length (separatedCflInEnds w)
+one-letter w e = let rise = separated-cfl-in-ends-rise w in omega (arith, rises-few rise, rises-some rise (omega arith))
 
 -- the pairs of i pieces are written; the next piece begins at from
 pub record Pairing (w es buffer₀ buffer : List ℕ) (from i : ℕ) : Type 0 where

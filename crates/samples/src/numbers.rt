@@ -1,10 +1,12 @@
 //! Numbers at boundaries, and the paired lists made of them.
 use super::buffers::fill;
 use super::shapes::spell;
-use naive::entry;
 use naive::letter;
 use naive::minus;
+use naive::pair_with_ones;
+use naive::part_length;
 use naive::plus;
+use naive::set_count;
 use naive::store;
 use naive::store_three;
 
@@ -41,8 +43,8 @@ fn short_list(list: &mut [u16], n: usize, number: usize) -> usize {
     count
 }
 
-// The ends of list `number`, with or without faults: first the short ones, then all places, and these with the last end or one in the middle raised to the next.
-// Answers how many there are.
+// Writes a list of ends, with or without faults: first the short ones, then all places, and these with the last end or one in the middle raised to the
+// next. Answers how many there are.
 fn write_ends(list: &mut [u16], n: usize, number: usize) -> usize {
     let at = match number {
         585 => n,
@@ -55,41 +57,23 @@ fn write_ends(list: &mut [u16], n: usize, number: usize) -> usize {
     n
 }
 
-// The count beside an end: 1; or 0, the part's length, or one above it.
-fn count_of(kind: usize, from: usize, end: usize) -> usize {
-    match kind {
-        0 | 4 => 1,
-        1 => minus(end, from),
-        2 => plus(minus(end, from), 1),
-        _ => 0,
-    }
-}
-
-// Puts counts beside so many ends, from the last to the first: all 1 but that of the part in the middle, which is of a kind.
-fn pair_up(list: &mut [u16], count: usize, kind: usize) {
-    let mut i = count;
-    while 0 < i {
-        i -= 1;
-        let end = entry(list, i);
-        let from = if i == 0 { 0 } else { entry(list, i - 1) };
-        let beside = count_of(if i == count / 2 { kind } else { 0 }, from, end);
-        store(list, plus(i, i), end);
-        store(list, plus(plus(i, i), 1), beside);
-    }
-}
-
 /// How many paired lists there are for a record: 588 lists of ends, five times.
 pub const LISTS: usize = 2940;
 
-/// Writes a paired list for a record of n letters, with or without faults: of its ends, of one of its counts, or one entry too few. Answers how many entries it has.
-pub fn write_list(list: &mut [u16], n: usize, number: usize) -> usize {
-    let kind = number % 5;
-    let count = write_ends(list, n, number / 5);
-    pair_up(list, count, kind);
-    let entries = plus(count, count);
-    if kind == 4 {
-        minus(entries, 1)
-    } else {
-        entries
-    }
+/// Writes a paired list for a record of n letters, with or without faults. The counts are 1, but the one in the middle may be 0, its part's length or one
+/// above it, or the last may be left out. Answers how many entries it has.
+pub fn write_list(pairs: &mut [u16], n: usize, number: usize) -> usize {
+    let count = write_ends(pairs, n, number / 5);
+    let entries = pair_with_ones(pairs, count);
+    let middle = count / 2;
+    let length = part_length(pairs, middle);
+    let inside = match number % 5 {
+        0 => 1,
+        1 => 0,
+        2 => length,
+        3 => plus(length, 1),
+        _ => return minus(entries, 1),
+    };
+    set_count(pairs, middle, inside);
+    entries
 }

@@ -26,6 +26,9 @@ pub const BATCH_BYTES: usize = 2 * ENTRIES;
 // The most work entries that are lent.
 const WORK: usize = 3 * ENTRIES;
 
+// The most result entries that are lent.
+const SPACE: usize = 2 * BATCH_BYTES;
+
 // Whether an answer is this refusal, or where that is 0 this count.
 fn is_reply(answer: Counted, refusal: usize, count: usize) -> bool {
     match answer {
@@ -56,30 +59,30 @@ fn call(
     record_ends: &[u32],
     lent: Room,
     work: &mut [u16],
-    ends: &mut [u16],
+    pairs: &mut [u16],
 ) -> Batch {
     let room = lent.work;
     let space = lent.list;
-    if work.len() < room || ends.len() < space {
-        return batch::icfl_batch(bytes, record_ends, work, ends);
+    if work.len() < room || pairs.len() < space {
+        return batch::icfl_batch(bytes, record_ends, work, pairs);
     }
-    batch::icfl_batch(bytes, record_ends, &mut work[0..room], &mut ends[0..space])
+    batch::icfl_batch(bytes, record_ends, &mut work[0..room], &mut pairs[0..space])
 }
 
 // Whether the call does as the second implementation says: all its answers, and every entry of the buffers.
 fn agrees(bytes: &[u8], record_ends: &[u32], lent: Room) -> bool {
     let mut work = [0u16; WORK];
-    let mut ends = [0u16; 2 * BATCH_BYTES];
-    let mut want = [0u16; 2 * BATCH_BYTES];
+    let mut pairs = [0u16; SPACE];
+    let mut want = [0u16; SPACE];
     let mut replies = [0u16; 2 * RECORDS];
     fill(&mut work, SALT);
-    fill(&mut ends, SALT);
-    let found = call(bytes, record_ends, lent, &mut work, &mut ends);
+    fill(&mut pairs, SALT);
+    let found = call(bytes, record_ends, lent, &mut work, &mut pairs);
     let outcome = naive::cut_batch(bytes, record_ends, lent, &mut want, &mut replies);
     (found.refusal == outcome.refusal)
         & are_replies(found, &replies)
         & is_left(&work, outcome.cleared, front(&want, 0), SALT)
-        & is_left(&ends, 0, front(&want, outcome.used), SALT)
+        & is_left(&pairs, 0, front(&want, outcome.used), SALT)
 }
 
 fn thrice(n: usize) -> usize {
@@ -98,20 +101,36 @@ fn random_room(n: usize, record_ends: &[u32], run: &mut Run) -> usize {
     if room < WORK { room } else { WORK }
 }
 
-// Result entries: two for each byte, or fewer.
-fn random_space(n: usize, run: &mut Run) -> usize {
-    match draw(run, 4) {
+// How many result entries a card comes to, lent so many work entries.
+fn needed_space(bytes: &[u8], record_ends: &[u32], room: usize) -> usize {
+    let mut want = [0u16; SPACE];
+    let mut replies = [0u16; 2 * RECORDS];
+    let lent = Room {
+        work: room,
+        list: SPACE,
+        breaks: 0,
+    };
+    naive::cut_batch(bytes, record_ends, lent, &mut want, &mut replies).used
+}
+
+// Result entries: two for each byte, no entry, one too few for all records, as many as needed, or fewer.
+fn random_space(n: usize, needed: usize, run: &mut Run) -> usize {
+    match draw(run, 8) {
         0 => plus(n, n),
-        1 => draw(run, plus(plus(n, n), 1)),
-        _ => draw(run, plus(n / 3 * 2, 1)),
+        1 => 0,
+        2 => minus(needed, 1),
+        3 => needed,
+        _ => draw(run, plus(needed, 1)),
     }
 }
 
 /// A card of at most so many bytes, with buffers of random sizes. Lists that are refused are counted by themselves.
 pub fn try_batch(bytes: &[u8], record_ends: &[u32], run: &mut Run) {
+    let room = random_room(bytes.len(), record_ends, run);
+    let needed = needed_space(bytes, record_ends, room);
     let lent = Room {
-        work: random_room(bytes.len(), record_ends, run),
-        list: random_space(bytes.len(), run),
+        work: room,
+        list: random_space(bytes.len(), needed, run),
         breaks: 0,
     };
     let agreed = agrees(bytes, record_ends, lent);

@@ -43,33 +43,6 @@ fn test(word: &[u8], work: &mut [u16], list: &mut [u16]) -> Counted {
     }
 }
 
-// The piece cut, its answer counting entries: two for each piece.
-fn pieces(word: &[u8], work: &mut [u16], list: &mut [u16]) -> Counted {
-    match icfl::icfl(word, work, list) {
-        Counted::Refused(number) => Counted::Refused(number),
-        Counted::Count(count) => Counted::Count(plus(count, count)),
-    }
-}
-
-// The same with its breaks.
-fn reasons(word: &[u8], work: &mut [u16], list: &mut [u16], beside: &mut [u16]) -> CountedBreaks {
-    match icfl::icfl_with_breaks(word, work, list, beside) {
-        CountedBreaks::Refused(number) => CountedBreaks::Refused(number),
-        CountedBreaks::Counts { factors, breaks } => CountedBreaks::Counts {
-            factors: plus(factors, factors),
-            breaks,
-        },
-    }
-}
-
-// The repetitions, their answer counting entries: three for each.
-fn repetitions(word: &[u8], list: &mut [u16]) -> Counted {
-    match runs::runs(word, list) {
-        Counted::Refused(number) => Counted::Refused(number),
-        Counted::Count(count) => Counted::Count(plus(count, plus(count, count))),
-    }
-}
-
 // The answer of a call that gives no breaks.
 fn unbroken(answer: Counted) -> CountedBreaks {
     match answer {
@@ -88,10 +61,10 @@ fn call_with(
 ) -> CountedBreaks {
     match call {
         Call::Test => unbroken(test(word, work, list)),
-        Call::Pieces => unbroken(pieces(word, work, list)),
-        Call::Breaks => reasons(word, work, list, breaks),
+        Call::Pieces => unbroken(icfl::icfl(word, work, list)),
+        Call::Breaks => icfl::icfl_with_breaks(word, work, list, breaks),
         Call::Strict => unbroken(cfl::cfl_in(word, list)),
-        Call::Repetitions => unbroken(repetitions(word, list)),
+        Call::Repetitions => unbroken(runs::runs(word, list)),
         _ => unbroken(table::lyndon_table(word, list)),
     }
 }
@@ -120,12 +93,21 @@ fn lend(
     )
 }
 
-// Whether the answer is the refusal, or counts the entries of both lists; a break has five.
-fn is_answer(answer: CountedBreaks, refused: u8, needed: Room) -> bool {
+// What a call answers for a list of so many entries: a piece has two, a repetition three.
+fn counted(call: Call, entries: usize) -> usize {
+    match call {
+        Call::Pieces | Call::Breaks => entries / 2,
+        Call::Repetitions => entries / 3,
+        _ => entries,
+    }
+}
+
+// Whether the answer is the refusal, or counts what both lists hold; a break has five entries.
+fn is_answer(call: Call, answer: CountedBreaks, refused: u8, needed: Room) -> bool {
     match answer {
         CountedBreaks::Refused(number) => (refused != 0) & (number == refused),
         CountedBreaks::Counts { factors, breaks } => (refused == 0)
-            & (factors == needed.list)
+            & (factors == counted(call, needed.list))
             & (breaks == needed.breaks / 5),
     }
 }
@@ -155,7 +137,7 @@ fn lent_is(call: Call, word: &[u8], lent: Room, want: &[u16], want_breaks: &[u16
     let answer = lend(call, word, lent, &mut work, &mut list, &mut breaks);
     let least = needed(call, word.len(), want.len(), want_breaks.len());
     let refused = naive::lent_refusal(call, word, least, lent);
-    is_answer(answer, refused, least)
+    is_answer(call, answer, refused, least)
         & is_left(&work, cleared(refused, least), front(want, 0), WORK_SALT)
         & is_left(&list, 0, written(refused, want), SALT)
         & is_left(&breaks, 0, written(refused, want_breaks), SALT)

@@ -36,12 +36,12 @@ fn are_bands(bands: &[u16], pairs: &[u16]) -> bool {
 }
 
 // Whether the numbers of a summary are those of the parts.
-fn is_summary(summary: Summary, parts: &[u16]) -> bool {
-    let longest = naive::longest(parts);
-    let from = naive::latest(parts, longest);
+fn is_summary(summary: Summary, pairs: &[u16]) -> bool {
+    let longest = naive::longest(pairs);
+    let from = naive::latest(pairs, longest);
     let bands = summary.bands;
     let placed = (summary.longest as usize == longest) & (summary.from as usize == from);
-    placed & (summary.count as usize == parts.len() / 2) & are_bands(&bands, parts)
+    placed & (summary.count as usize == pairs.len() / 2) & are_bands(&bands, pairs)
 }
 
 /// Whether the summary is that of the parts, or the refusal beside that of no parts, which is 0 throughout.
@@ -52,16 +52,17 @@ pub fn summary_agrees(word: &[u8], pairs: &[u16]) -> bool {
     (summary.refusal == refused) & is_summary(summary, parts)
 }
 
-/// The reader on list `code` / 5 of those with faults, at one of five numbers about the number of its ends.
+/// The reader on list `code` / 5 of those with faults, at one of five numbers about the number of its pairs.
 pub fn part_agrees_at_limits(word: &[u8], code: usize) -> bool {
-    let mut list = [0u16; PAIR_ENTRIES];
-    let count = write_list(&mut list, word.len(), code / 5);
-    part_agrees(word, front(&list, count), about(0, count / 2, code % 5 + 1))
+    let mut pairs = [0u16; PAIR_ENTRIES];
+    let entries = write_list(&mut pairs, word.len(), code / 5);
+    let number = about(0, entries / 2, code % 5 + 1);
+    part_agrees(word, front(&pairs, entries), number)
 }
 
 /// The summary of list `code`.
 pub fn summary_agrees_at_limits(word: &[u8], code: usize) -> bool {
-    let mut list = [0u16; PAIR_ENTRIES];
-    let count = write_list(&mut list, word.len(), code);
-    summary_agrees(word, front(&list, count))
+    let mut pairs = [0u16; PAIR_ENTRIES];
+    let entries = write_list(&mut pairs, word.len(), code);
+    summary_agrees(word, front(&pairs, entries))
 }

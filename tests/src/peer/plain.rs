@@ -1,5 +1,5 @@
 //! The algorithms, with the library's checks, passes and buffers.
-use super::raw::{Batch, Reply, Summary};
+use super::raw::{Batch, Reply};
 use super::Extension;
 use metsroeb::{MOST, MOST_RECORDS};
 
@@ -13,20 +13,6 @@ pub fn check_record(record: &[u8]) -> Result<(), u8> {
         n if n > MOST => Err(2),
         _ => Ok(()),
     }
-}
-
-fn check_ends(ends: &[u16], length: usize) -> Result<(), u8> {
-    let mut last = 0;
-    for &end in ends {
-        if end <= last {
-            return Err(7);
-        }
-        last = end;
-    }
-    if last as usize != length {
-        return Err(7);
-    }
-    Ok(())
 }
 
 fn check_record_ends(ends: &[u32], length: usize) -> Result<(), u8> {
@@ -120,13 +106,25 @@ fn cut<'a>(record: &[u8], work: &'a mut [u16]) -> (&'a [u16], &'a [[u16; 2]]) {
     (&table[..count], &breaks[..broken])
 }
 
-pub fn icfl(record: &[u8], work: &mut [u16], ends: &mut [u16]) -> Result<usize, u8> {
+/// Every piece ends where a factor of the strict cut does, so each piece is counted by itself.
+fn write_pairs(record: &[u8], ends: &[u16], result: &mut [[u16; 2]]) {
+    let mut from = 0;
+    for (pair, &end) in result.iter_mut().zip(ends) {
+        let mut count = 0;
+        duval(&record[from..end as usize], |_| count += 1);
+        *pair = [end, count];
+        from = end as usize;
+    }
+}
+
+/// Gives the number of pieces.
+pub fn icfl(record: &[u8], work: &mut [u16], pairs: &mut [u16]) -> Result<usize, u8> {
     check_record(record)?;
     let Some(work) = work.get_mut(..3 * record.len()) else { return Err(3) };
     let (found, _) = cut(record, work);
-    let answer = match ends.get_mut(..found.len()) {
-        Some(ends) => {
-            ends.copy_from_slice(found);
+    let answer = match pairs.get_mut(..2 * found.len()) {
+        Some(pairs) => {
+            write_pairs(record, found, pairs.as_chunks_mut().0);
             Ok(found.len())
         }
         None => Err(4),
@@ -136,7 +134,7 @@ pub fn icfl(record: &[u8], work: &mut [u16], ends: &mut [u16]) -> Result<usize, 
 }
 
 /// The records one after another, each with what is left of the result buffer.
-pub fn icfl_batch(bytes: &[u8], record_ends: &[u32], work: &mut [u16], ends: &mut [u16]) -> Batch {
+pub fn icfl_batch(bytes: &[u8], record_ends: &[u32], work: &mut [u16], pairs: &mut [u16]) -> Batch {
     let mut batch = Batch { refusal: 0, replies: [Reply { refusal: 0, count: 0 }; MOST_RECORDS] };
     if let Err(no) = check_record_ends(record_ends, bytes.len()) {
         batch.refusal = no;
@@ -145,10 +143,10 @@ pub fn icfl_batch(bytes: &[u8], record_ends: &[u32], work: &mut [u16], ends: &mu
     let (mut from, mut used) = (0, 0);
     for (reply, &end) in batch.replies.iter_mut().zip(record_ends) {
         let end = end as usize;
-        match icfl(&bytes[from..end], work, &mut ends[used..]) {
+        match icfl(&bytes[from..end], work, &mut pairs[used..]) {
             Ok(count) => {
                 reply.count = count as u16;
-                used += count;
+                used += 2 * count;
             }
             Err(no) => reply.refusal = no,
         }
@@ -177,13 +175,13 @@ fn write_breaks(record: &[u8], ends: &[u16], breaks: &[[u16; 2]], result: &mut [
     }
 }
 
-pub fn icfl_with_breaks(record: &[u8], work: &mut [u16], ends: &mut [u16], breaks: &mut [u16]) -> Result<(usize, usize), u8> {
+pub fn icfl_with_breaks(record: &[u8], work: &mut [u16], pairs: &mut [u16], breaks: &mut [u16]) -> Result<(usize, usize), u8> {
     check_record(record)?;
     let Some(work) = work.get_mut(..3 * record.len()) else { return Err(3) };
     let (found, considered) = cut(record, work);
-    let answer = match (ends.get_mut(..found.len()), breaks.get_mut(..5 * considered.len())) {
-        (Some(ends), Some(breaks)) => {
-            ends.copy_from_slice(found);
+    let answer = match (pairs.get_mut(..2 * found.len()), breaks.get_mut(..5 * considered.len())) {
+        (Some(pairs), Some(breaks)) => {
+            write_pairs(record, found, pairs.as_chunks_mut().0);
             write_breaks(record, found, considered, breaks.as_chunks_mut().0);
             Ok((found.len(), considered.len()))
         }
@@ -278,30 +276,4 @@ pub fn compare_suffixes(record: &[u8], first: usize, end: usize, start: usize, o
         Some(common) => (if x[common] > y[common] { -1 } else { 1 }, common),
         None => (x.len().cmp(&y.len()) as i8, x.len().min(y.len())),
     })
-}
-
-pub fn factor_at(record: &[u8], ends: &[u16], number: usize) -> Result<(u16, u16), u8> {
-    check_record(record)?;
-    check_ends(ends, record.len())?;
-    let Some(&end) = ends.get(number) else { return Err(8) };
-    Ok((if number == 0 { 0 } else { ends[number - 1] }, end))
-}
-
-pub fn summarize(record: &[u8], ends: &[u16]) -> Summary {
-    let mut summary = Summary { refusal: 0, count: 0, longest: 0, from: 0, bands: [0; 13] };
-    if let Err(no) = check_record(record).and_then(|()| check_ends(ends, record.len())) {
-        summary.refusal = no;
-        return summary;
-    }
-    let mut last = 0;
-    for &end in ends {
-        let length = end - last;
-        summary.count += 1;
-        summary.bands[15 - length.leading_zeros() as usize] += 1;
-        if summary.longest <= length {
-            (summary.longest, summary.from) = (length, last);
-        }
-        last = end;
-    }
-    summary
 }

@@ -1,6 +1,6 @@
 //! The header's functions over the peer's algorithms. The caller keeps the header's terms.
 #![allow(clippy::missing_safety_doc, clippy::too_many_arguments)]
-use super::{plain, runs, Extension};
+use super::{lists, plain, runs, Extension};
 pub use metsroeb::raw::{Batch, Reply, Summary};
 use std::slice::{from_raw_parts, from_raw_parts_mut};
 
@@ -37,12 +37,12 @@ pub unsafe extern "C" fn metsroeb_icfl(
     record_len: usize,
     work: *mut u16,
     work_len: usize,
-    ends: *mut u16,
-    ends_len: usize,
+    pairs: *mut u16,
+    pairs_len: usize,
     count: *mut u16,
 ) -> u8 {
     let answer =
-        plain::icfl(from_raw_parts(record, record_len), from_raw_parts_mut(work, work_len), from_raw_parts_mut(ends, ends_len));
+        plain::icfl(from_raw_parts(record, record_len), from_raw_parts_mut(work, work_len), from_raw_parts_mut(pairs, pairs_len));
     store_count(answer, &mut *count)
 }
 
@@ -52,8 +52,8 @@ pub unsafe extern "C" fn metsroeb_icfl_breaks(
     record_len: usize,
     work: *mut u16,
     work_len: usize,
-    ends: *mut u16,
-    ends_len: usize,
+    pairs: *mut u16,
+    pairs_len: usize,
     breaks: *mut u16,
     breaks_len: usize,
     count: *mut u16,
@@ -62,11 +62,11 @@ pub unsafe extern "C" fn metsroeb_icfl_breaks(
     let answer = plain::icfl_with_breaks(
         from_raw_parts(record, record_len),
         from_raw_parts_mut(work, work_len),
-        from_raw_parts_mut(ends, ends_len),
+        from_raw_parts_mut(pairs, pairs_len),
         from_raw_parts_mut(breaks, breaks_len),
     );
     store_count(answer.map(|(_, breaks)| breaks), &mut *break_count);
-    store_count(answer.map(|(ends, _)| ends), &mut *count)
+    store_count(answer.map(|(pieces, _)| pieces), &mut *count)
 }
 
 #[inline(never)]
@@ -77,14 +77,14 @@ pub unsafe extern "C" fn metsroeb_icfl_batch(
     record_ends_len: usize,
     work: *mut u16,
     work_len: usize,
-    ends: *mut u16,
-    ends_len: usize,
+    pairs: *mut u16,
+    pairs_len: usize,
 ) -> Batch {
     plain::icfl_batch(
         from_raw_parts(bytes, bytes_len),
         from_raw_parts(record_ends, record_ends_len),
         from_raw_parts_mut(work, work_len),
-        from_raw_parts_mut(ends, ends_len),
+        from_raw_parts_mut(pairs, pairs_len),
     )
 }
 
@@ -142,18 +142,23 @@ pub unsafe extern "C" fn metsroeb_compare(
 pub unsafe extern "C" fn metsroeb_factor(
     record: *const u8,
     record_len: usize,
-    ends: *const u16,
-    ends_len: usize,
+    pairs: *const u16,
+    pairs_len: usize,
     number: usize,
     first: *mut u16,
     end: *mut u16,
 ) -> u8 {
-    let answer = plain::factor_at(from_raw_parts(record, record_len), from_raw_parts(ends, ends_len), number);
+    let answer = lists::factor_at(from_raw_parts(record, record_len), from_raw_parts(pairs, pairs_len), number);
     (*first, *end) = answer.unwrap_or((0, 0));
     answer.err().unwrap_or(0)
 }
 
 #[inline(never)]
-pub unsafe extern "C" fn metsroeb_summarize(record: *const u8, record_len: usize, ends: *const u16, ends_len: usize) -> Summary {
-    plain::summarize(from_raw_parts(record, record_len), from_raw_parts(ends, ends_len))
+pub unsafe extern "C" fn metsroeb_summarize(
+    record: *const u8,
+    record_len: usize,
+    pairs: *const u16,
+    pairs_len: usize,
+) -> Summary {
+    lists::summarize(from_raw_parts(record, record_len), from_raw_parts(pairs, pairs_len))
 }

@@ -23,7 +23,7 @@ inside-at c =
     (inside .0, inside .1, c .before .before .before .before .before .before .pre .short)
 
 -- and its two entries in the buffer
-room-at : (c : tie.After-count-factors Inv-loop μ-loop) → (let turn = c .before .before .before .before in
+room-at : (c : tie.After-count-inside Inv-loop μ-loop) → (let turn = c .before .before .before .before in
     2 * turn .loop .i + 1 < length (turn .loop .pairs))
 room-at c =
     let turn = c .before .before .before .before in
@@ -41,17 +41,17 @@ shared-slice-read-end c = search needs
 cast-end : tie.Need-cast-end Inv-loop μ-loop
 cast-end c = omega (arith, inside-at c)
 
-sub-count-factors : tie.Need-sub-count-factors Inv-loop μ-loop
-sub-count-factors c = omega (arith, inside-at c)
+sub-count-inside : tie.Need-sub-count-inside Inv-loop μ-loop
+sub-count-inside c = omega (arith, inside-at c)
 
-part-count-factors-start : tie.Need-part-count-factors-start Inv-loop μ-loop
-part-count-factors-start c = omega (arith, inside-at c)
+part-count-inside-start : tie.Need-part-count-inside-start Inv-loop μ-loop
+part-count-inside-start c = omega (arith, inside-at c)
 
-part-count-factors-end : tie.Need-part-count-factors-end Inv-loop μ-loop
-part-count-factors-end c = omega (arith, inside-at c)
+part-count-inside-end : tie.Need-part-count-inside-end Inv-loop μ-loop
+part-count-inside-end c = omega (arith, inside-at c)
 
-count-factors-requires : tie.Need-count-factors-requires Inv-loop μ-loop
-count-factors-requires c κs = simp (length-take, length-drop) (omega (arith, inside-at (c .before)))
+count-inside-requires : tie.Need-count-inside-requires Inv-loop μ-loop
+count-inside-requires c κs = simp (length-take, length-drop) (omega (arith, inside-at (c .before)))
 
 cast-pairs : tie.Need-cast-pairs Inv-loop μ-loop
 cast-pairs c = omega (arith, inside-at (c .before .before))
@@ -68,7 +68,7 @@ slice-write-pairs c = search needs
 cast-pairs-2 : tie.Need-cast-pairs-2 Inv-loop μ-loop
 cast-pairs-2 c =
     let turn = c .before .before .before .before in
-    omega (arith, inside-at (c .before .before), count-few (turn .loop .inv) (c .before .before .before .loop-test .taken) (c .count-factors .ensures))
+    omega (arith, inside-at (c .before .before), count-few (turn .loop .inv) (c .before .before .before .loop-test .taken) (c .count-inside .ensures))
 
 mul-pairs-3 : tie.Need-mul-pairs-3 Inv-loop μ-loop
 mul-pairs-3 c = search needs
@@ -91,7 +91,7 @@ loop-less c = search needs
 loop-again : tie.Need-loop-again Inv-loop μ-loop
 loop-again c =
     let at = c .before .before .before .before in
-    pairing-on (at .loop .inv) (c .before .before .before .loop-test .taken) (c .count-factors .ensures) (room-at c)
+    pairing-on (at .loop .inv) (c .before .before .before .loop-test .taken) (c .count-inside .ensures) (room-at c)
 
 same-length : tie.Need-same-length Inv-loop μ-loop
 same-length c = search needs
@@ -102,6 +102,6 @@ returns c = pairing-ends (c .before .loop .inv) (c .loop-test .left)
 pub write-pairs-spec : {M : Type 1} → statement M
 write-pairs-spec =
     tie.close
-    (tie.spec Inv-loop μ-loop loop-holds mul-end shared-slice-read-end cast-end sub-count-factors part-count-factors-start part-count-factors-end
-    count-factors-requires cast-pairs mul-pairs mul-pairs-2 slice-write-pairs cast-pairs-2 mul-pairs-3 add-pairs mul-pairs-4 slice-write-pairs-2 add-i loop-less
+    (tie.spec Inv-loop μ-loop loop-holds mul-end shared-slice-read-end cast-end sub-count-inside part-count-inside-start part-count-inside-end
+    count-inside-requires cast-pairs mul-pairs mul-pairs-2 slice-write-pairs cast-pairs-2 mul-pairs-3 add-pairs mul-pairs-4 slice-write-pairs-2 add-i loop-less
     loop-again same-length returns)

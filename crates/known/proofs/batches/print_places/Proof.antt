@@ -5,10 +5,10 @@ use Rattle.known.proofs.batches.print_places.Statement.{statement}
 use Rattle.known.proofs.batches.print_places.Tie as tie
 
 abbrev Inv-loop : tie.InvT-loop
-Inv-loop ends places used₀ zeros₀ k₀ used zeros k = Unit {0}
+Inv-loop pairs places used₀ zeros₀ k₀ used zeros k = Unit {0}
 
 abbrev μ-loop : tie.MeasureT-loop
-μ-loop ends places used₀ zeros₀ k₀ used zeros k = 64 - k
+μ-loop pairs places used₀ zeros₀ k₀ used zeros k = 64 - k
 
 pub print-places-spec : {M : Type 1} → statement M
 print-places-spec =

@@ -6,10 +6,10 @@ use Rattle.naive.proofs.parts.in_band.Statement.{statement}
 use Rattle.naive.proofs.parts.in_band.Tie as tie
 
 abbrev Inv-loop : tie.InvT-loop
-Inv-loop ends digits count₀ k₀ count k = Unit {0}
+Inv-loop pairs digits count₀ k₀ count k = Unit {0}
 
 abbrev μ-loop : tie.MeasureT-loop
-μ-loop ends digits count₀ k₀ count k = length ends / 2 - k
+μ-loop pairs digits count₀ k₀ count k = length pairs / 2 - k
 
 pub in-band-spec : {M : Type 1} → statement M
 in-band-spec =

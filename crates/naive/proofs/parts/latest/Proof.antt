@@ -4,10 +4,10 @@ use Rattle.naive.proofs.parts.latest.Statement.{statement}
 use Rattle.naive.proofs.parts.latest.Tie as tie
 
 abbrev Inv-loop : tie.InvT-loop
-Inv-loop ends size k₀ k = Unit {0}
+Inv-loop pairs size k₀ k = Unit {0}
 
 abbrev μ-loop : tie.MeasureT-loop
-μ-loop ends size k₀ k = k
+μ-loop pairs size k₀ k = k
 
 pub latest-spec : {M : Type 1} → statement M
 latest-spec =

@@ -6,10 +6,10 @@ use Rattle.naive.proofs.parts.longest.Statement.{statement}
 use Rattle.naive.proofs.parts.longest.Tie as tie
 
 abbrev Inv-loop : tie.InvT-loop
-Inv-loop ends most₀ k₀ most k = Unit {0}
+Inv-loop pairs most₀ k₀ most k = Unit {0}
 
 abbrev μ-loop : tie.MeasureT-loop
-μ-loop ends most₀ k₀ most k = length ends / 2 - k
+μ-loop pairs most₀ k₀ most k = length pairs / 2 - k
 
 pub longest-spec : {M : Type 1} → statement M
 longest-spec =
