@@ -1,20 +1,14 @@
--- What stores leave in a buffer: a copy one entry further (copy-more), an entry stored from the end on (FilledFrom), and what is kept past
--- a place (kept-past, written-over, cleared-kept, cleared-twice). A fill one entry further is the kit's fill-more.
+-- What stores leave in a buffer: an entry stored from the end on (FilledFrom), and what is kept past a place (kept-past, written-over,
+-- cleared-kept, cleared-twice). A fill one entry further is the kit's fill-more.
 use mathlib.Core.Path.{_≡_, refl, ap, sym, _∙_}
 use mathlib.Core.List.{List, [], _∷_, _++_, append-assoc}
 use Prim.Native.Nat.{ℕ, zero, suc, _+_, _-_, _≤_, _<_, max}
-use native.Mathlib.Nat.{zero-add, zero-max, max-zero, suc-max-suc}
-use native.Mathlib.Numerals.{add-one}
+use native.Mathlib.Nat.{zero-max, max-zero, suc-max-suc}
 use native.Mathlib.Omega.{arith}
 use lib.ListN.{length, take, drop, getD, set, replicate, length-set, drop-of-length-le}
-use lib.Seq.{paste-suc, length-take-le, take-suc, drop-cons, set-at, getD-drop, getD-append-add, drop-append-seam}
+use lib.Seq.{length-take-le, take-suc, drop-cons, set-at, getD-drop, getD-append-add, drop-append-seam}
 use Rattle.buffers.specs.Buffers.{cleared, written}
 use Rattle.buffers.proofs.PartLaws.{drop-to}
-
--- a turn of the loop that copies to the front
-pub copy-more : (source buffer : List ℕ) (i : ℕ) → i < length source → length source ≤ length buffer
-    → set (take i source ++ drop i buffer) i (getD source i 0) ≡ take (i + 1) source ++ drop (i + 1) buffer
-copy-more source buffer i l m = simp (zero-add, ← add-one) at (paste-suc buffer 0 source i 0 (omega arith) l)
 
 -- ---- what is kept past a place
 

@@ -1,9 +1,9 @@
-//! What calls do with a lent buffer, whatever it is for: clear its front, write a list to its front. The laws of buffers and of parts
-//! of a list that every call cites are in proofs/.
+//! What calls do with a lent buffer, whatever it is for: they clear its front. The laws of buffers and of parts of a list that every call
+//! cites are in proofs/.
 ghost use mathlib.Core.Path.{_≡_};
 ghost use Prim.Native.Nat.{_≤_};
 ghost use lib.ListN.{length};
-ghost use Rattle.buffers.specs.Buffers.{cleared, written};
+ghost use Rattle.buffers.specs.Buffers.{cleared};
 
 /// Sets the first `n` entries to zero.
 pub fn clear(buffer: &mut [u16], n: usize)
@@ -13,18 +13,6 @@ pub fn clear(buffer: &mut [u16], n: usize)
     let mut i: usize = 0;
     while i < n {
         buffer[i] = 0;
-        i += 1;
-    }
-}
-
-/// Writes all entries of `source` to the front of `buffer`.
-pub fn copy(source: &[u16], buffer: &mut [u16])
-    requires { ⌜ length (now source) ≤ length (now buffer) ⌝ }
-    ensures { λ r. ⌜ now (buffer .exit) ≡ written (now (source .entry)) (now (buffer .entry)) ⌝ }
-{
-    let mut i: usize = 0;
-    while i < source.len() {
-        buffer[i] = source[i];
         i += 1;
     }
 }

@@ -59,7 +59,7 @@ inside-split i j k l h (s ∷ ss) = go (one-more i k s ss) (one-more i j s ss) (
     go (left-out p) (left-out r) (counted u v) e d = absurd (p (omega arith) v)
     go (left-out p) (left-out r) (left-out u) e d = e
 
-pub inside-append : (i j : ℕ) (ss ts : List ℕ) → endsInside i j (ss ++ ts) ≡ endsInside i j ss + endsInside i j ts
+inside-append : (i j : ℕ) (ss ts : List ℕ) → endsInside i j (ss ++ ts) ≡ endsInside i j ss + endsInside i j ts
 unfolding endsInside
 inside-append i j [] ts = omega arith
 inside-append i j (s ∷ ss) ts = go (one-more i j s (ss ++ ts)) (one-more i j s ss) (inside-append i j ss ts)
@@ -101,7 +101,7 @@ inside-all {n} (more {b = b} {e = s} {es = ss} k r) i j l h = go (one-more i j s
     go (counted p q) e = ap suc e
     go (left-out p) e = absurd (p (omega arith) (omega (arith, rises-most r)))
 
-pub inside-before : {n b : ℕ} {ss : List ℕ} → Rises n b ss → (i j : ℕ) → n ≤ i → endsInside i j ss ≡ 0
+inside-before : {n b : ℕ} {ss : List ℕ} → Rises n b ss → (i j : ℕ) → n ≤ i → endsInside i j ss ≡ 0
 unfolding endsInside
 inside-before (done z) i j l = refl
 inside-before {n} (more {b = b} {e = s} {es = ss} k r) i j l = go (one-more i j s ss) (inside-before r i j l)
@@ -110,7 +110,7 @@ inside-before {n} (more {b = b} {e = s} {es = ss} k r) i j l = go (one-more i j 
     go (counted p q) e = absurd (omega (arith, rises-most r))
     go (left-out p) e = e
 
-pub inside-after : {n b : ℕ} {ss : List ℕ} → Rises n b ss → (i j : ℕ) → j ≤ b → endsInside i j ss ≡ 0
+inside-after : {n b : ℕ} {ss : List ℕ} → Rises n b ss → (i j : ℕ) → j ≤ b → endsInside i j ss ≡ 0
 unfolding endsInside
 inside-after (done z) i j l = refl
 inside-after {n} (more {b = b} {e = s} {es = ss} k r) i j l = go (one-more i j s ss) (inside-after r i j (omega arith))
