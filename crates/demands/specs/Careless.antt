@@ -125,7 +125,7 @@ unfolding separatedIcflEnds prefixLength
 first-p-only = other-ends (λ w. prefixLength w ∷ length w ∷ []) (a ∷ b ∷ c ∷ []) (omega arith) (omega arith)
     (λ e. let z : _≡_ {A = ℕ} 3 2 = ap (λ (t : List ℕ). getD t 1 0) e in omega arith)
 
--- ---- other cutters, which leave the work buffer alone; only the answer and the ends are looked at
+-- ---- other cutters, which leave the work buffer alone; only the answer and the pairs are looked at
 
 abbrev pub Answering : ((w : List ℕ) (work entries : ℕ) → Counted) → (List ℕ → List ℕ → List ℕ) → Cut
 Answering answer after w work pairs r work′ pairs′ = (r ≡ answer w (length work) (length pairs)) × (pairs′ ≡ after w pairs) × (work′ ≡ work)

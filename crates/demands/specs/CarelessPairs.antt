@@ -35,7 +35,7 @@ unfolding soFar separatedIcflEnds separatedCflInEnds separatedPairs endsOf
 counts-so-far = other-pairs (λ w. soFar (separatedIcflEnds w) (separatedCflInEnds w)) (a ∷ b ∷ []) (omega arith) (omega arith) refl
     (λ e. let z : _≡_ {A = ℕ} 2 1 = ap (λ (t : List ℕ). getD t 3 0) e in omega arith)
 
--- one that counts a mark and what it ends
+-- one that gives two for a mark
 pub two-at-mark : (f : List ℕ → List ℕ) → f (m ∷ []) ≡ 1 ∷ 2 ∷ [] → ¬ Demand2 (cutter (CutsAt f)) (m ∷ [])
 unfolding separatedPairs endsOf
 two-at-mark f x = other-pairs f (m ∷ []) (omega arith) (omega arith) (rw x refl)
