@@ -123,27 +123,25 @@ module _ {n : ℕ} {ps : List ℕ} {last i : ℕ} (g : PairsLeft n ps last i) wh
         let y : suc i ≡ i + 1 = omega arith in
         drop-cons ps i 0 l ∙ rw (y, drop-cons ps (i + 1) 0 pair-inside, z)
 
-    pub pairs-on : last < end → 0 < count → count ≤ end - last → PairsLeft n ps end (i + 2)
-    pairs-on h p q = record {
-      inside = omega (arith, pair-inside);
-      even = omega (arith, g .even, pair-inside);
-      on = λ r. paired-head (rw next at (g .on r)) .3;
-      back = λ r. g .back (rw next (more h p q r));
-    }
-
-    pub end-fails : end ≤ last → true ≡ faultyPairs ps n
-    end-fails h = not-paired ps n (λ v. omega (arith, paired-head (rw next at (g .on (v .paired))) .0))
-
-    pub count-fails : (eqb count 0 || ltb (end - last) count) ≡ true → true ≡ faultyPairs ps n
-    count-fails e = not-paired ps n (λ v. let h = paired-head (rw next at (g .on (v .paired))) in go (h .1) (h .2))
+    pub pair-fails : (eqb count 0 || ltb end (last + count)) ≡ true → true ≡ faultyPairs ps n
+    pair-fails e = not-paired ps n (λ v. let h = paired-head (rw next at (g .on (v .paired))) in go (h .0) (h .1) (h .2))
       where
-        go : 0 < count → count ≤ end - last → ⊥
-        go p q = true≢false (sym e ∙ rw (ne-eqb count 0 (λ z. omega arith), le-ltb (end - last) count q))
+        go : last < end → 0 < count → count ≤ end - last → ⊥
+        go l p q = true≢false (sym e ∙ rw (ne-eqb count 0 (λ z. omega arith), le-ltb end (last + count) (omega arith)))
 
-    pub count-stands : (eqb count 0 || ltb (end - last) count) ≡ false → (0 < count) × (count ≤ end - last)
-    count-stands e =
-        let u = either-unmet (eqb count 0) (ltb (end - last) count) e in
-        (omega (arith, eqb-false count 0 (u .0)), ltb-false (end - last) count (u .1))
+    pub pairs-on : (eqb count 0 || ltb end (last + count)) ≡ false → PairsLeft n ps end (i + 2)
+    pairs-on e =
+        let u = either-unmet (eqb count 0) (ltb end (last + count)) e in
+        let p : 0 < count = omega (arith, eqb-false count 0 (u .0)) in
+        let q : last + count ≤ end = ltb-false end (last + count) (u .1) in
+        let above : last < end = omega arith in
+        let fits : count ≤ end - last = omega arith in
+        record {
+          inside = omega (arith, pair-inside);
+          even = omega (arith, g .even, pair-inside);
+          on = λ r. paired-head (rw next at (g .on r)) .3;
+          back = λ r. g .back (rw next (more above p fits r));
+        }
 
   pub pairs-end : length ps ≤ i → 0 < length ps → not (eqb last n) ≡ faultyPairs ps n
   pairs-end l p = go (eqb-test last n)

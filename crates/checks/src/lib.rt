@@ -103,21 +103,19 @@ fn faulty_pairs(pairs: &[u16], letters: usize) -> bool
     if (entries == 0) | (entries % 2 == 1) {
         return true;
     }
-    let mut last: u16 = 0;
+    let mut last: usize = 0;
     let mut i: usize = 0;
     while i < entries {
-        let end = pairs[i];
-        let count = pairs[i + 1];
-        if end <= last {
-            return true;
-        }
-        if (count == 0) | (end - last < count) {
+        let end = pairs[i] as usize;
+        let count = pairs[i + 1] as usize;
+        // With a count above 0 the second test is also that the end is above the last.
+        if (count == 0) | (end < last + count) {
             return true;
         }
         last = end;
         i += 2;
     }
-    last as usize != letters
+    last != letters
 }
 
 /// Line 7: a list of pairs for a record of so many letters.

@@ -1,9 +1,9 @@
--- Each turn takes one end that is above the last, with a count that fits; the list passes where the last end is the length.
+-- Each turn takes one pair whose count is not 0 and reaches no further from the last end than its own end; the list passes where the last end is the length.
 use borrow.Author.Needs.{needs}
-use Prim.Native.Nat.{_-_, _<_}
+use Prim.Native.Nat.{_+_, _-_, _<_}
 use native.Mathlib.Omega.{arith}
 use lib.ListN.{length}
-use Rattle.checks.proofs.PairsLaws.{PairsLeft, pairs-odd, pairs-left, pair-inside, pairs-on, end-fails, count-fails, count-stands, pairs-end}
+use Rattle.checks.proofs.PairsLaws.{PairsLeft, pairs-odd, pairs-left, pair-inside, pair-fails, pairs-on, pairs-end}
 use Rattle.checks.proofs.faulty_pairs.Statement.{statement}
 use Rattle.checks.proofs.faulty_pairs.Tie as tie
 
@@ -25,6 +25,9 @@ mul-end c = search needs
 shared-slice-read-end : tie.Need-shared-slice-read-end Inv-loop μ-loop
 shared-slice-read-end c = search needs
 
+cast-end : tie.Need-cast-end Inv-loop μ-loop
+cast-end c = omega (arith, c .shared-slice-known .given (c .before .before .loop .i) .fits)
+
 add-count : tie.Need-add-count Inv-loop μ-loop
 add-count c = search needs
 
@@ -34,14 +37,14 @@ mul-count c = search needs
 shared-slice-read-count : tie.Need-shared-slice-read-count Inv-loop μ-loop
 shared-slice-read-count c = let turn = c .before .before in pair-inside (turn .before .loop .inv .0) (turn .loop-test .taken)
 
+cast-count : tie.Need-cast-count Inv-loop μ-loop
+cast-count c = omega (arith, c .shared-slice-known2 .given (c .before .before .before .loop .i + 1) .fits)
+
+add-if2 : tie.Need-add-if2 Inv-loop μ-loop
+add-if2 c = omega (arith, c .before .before .before .loop .inv .1, c .shared-slice-known2 .given (c .before .before .before .loop .i + 1) .fits)
+
 returns-2 : tie.Need-returns-2 Inv-loop μ-loop
-returns-2 c = let turn = c .before .before .before in end-fails (turn .before .loop .inv .0) (turn .loop-test .taken) (c .if2 .taken)
-
-sub-if3 : tie.Need-sub-if3 Inv-loop μ-loop
-sub-if3 c = search needs
-
-returns-3 : tie.Need-returns-3 Inv-loop μ-loop
-returns-3 c = let turn = c .before .before .before .before in count-fails (turn .before .loop .inv .0) (turn .loop-test .taken) (c .if3 .taken)
+returns-2 c = let turn = c .before .before .before in pair-fails (turn .before .loop .inv .0) (turn .loop-test .taken) (c .if2 .taken)
 
 add-i : tie.Need-add-i Inv-loop μ-loop
 add-i c = search needs
@@ -51,21 +54,17 @@ loop-less c = search needs
 
 loop-again : tie.Need-loop-again Inv-loop μ-loop
 loop-again c =
-    let turn = c .before .before .before .before in
+    let turn = c .before .before .before in
     let at = turn .before .loop in
-    let stands = count-stands (at .inv .0) (turn .loop-test .taken) (c .if3 .left) in (
-      pairs-on (at .inv .0) (turn .loop-test .taken) (c .before .if2 .left) (stands .0) (stands .1),
-      omega (arith, c .before .before .before .shared-slice-known .given (at .i) .fits),
-    )
+    (pairs-on (at .inv .0) (turn .loop-test .taken) (c .if2 .left), omega (arith, c .before .before .shared-slice-known .given (at .i) .fits))
 
-cast-result : tie.Need-cast-result Inv-loop μ-loop
-cast-result c = search needs
-
-returns-4 : tie.Need-returns-4 Inv-loop μ-loop
-returns-4 c = pairs-end (c .before .loop .inv .0) (c .loop-test .left) (pairs-left (c .before .before .before .args .pairs .now) 0 (c .before .before .if1 .left) .0)
+returns-3 : tie.Need-returns-3 Inv-loop μ-loop
+returns-3 c =
+    let some = pairs-left (c .before .before .before .args .pairs .now) 0 (c .before .before .if1 .left) .0 in
+    pairs-end (c .before .loop .inv .0) (c .loop-test .left) some
 
 pub faulty-pairs-spec : {M : Type 1} → statement M
 faulty-pairs-spec =
     tie.close
-    (tie.spec Inv-loop μ-loop returns loop-holds mul-end shared-slice-read-end add-count mul-count shared-slice-read-count returns-2 sub-if3
-    returns-3 add-i loop-less loop-again cast-result returns-4)
+    (tie.spec Inv-loop μ-loop returns loop-holds mul-end shared-slice-read-end cast-end add-count mul-count shared-slice-read-count cast-count add-if2 returns-2
+    add-i loop-less loop-again returns-3)
