@@ -1,5 +1,5 @@
--- The call's promise where its list is refused (batch-refused), and the turns of the loop that cuts the records (Cutting): what is still to be cut, from what has come
--- of those before, leads to the whole batch.
+-- The call's promise where its list is refused (batch-refused), and the turns of the loop that cuts the records (Cutting): what is still to be cut, from what
+-- has come of those before, leads to the whole batch.
 use mathlib.Core.Path.{_≡_, refl, ap, sym, _∙_}
 use mathlib.Core.List.{List, [], _∷_, _++_, map, map-append, append-assoc}
 use Prim.Native.Nat.{ℕ, suc, _+_, _-_, _*_, _≤_, _<_}
@@ -9,26 +9,28 @@ use lib.ListN.{length, take, drop, getD, set, replicate, length-map, length-appe
 use lib.Seq.{slice, drop-cons, set-at, length-take-le}
 use Rattle.words.specs.Words.{mostLetters}
 use Rattle.words.specs.Pairs.{separatedPairs}
-use Rattle.words.specs.places.EndsRise.{rises-few}
-use Rattle.words.specs.stretches.Factors.{separated-icfl-ends-rise}
-use Rattle.words.specs.stretches.RecordPairs.{pairs-entries}
+use Rattle.theory.specs.places.EndsRise.{rises-few}
+use Rattle.theory.specs.stretches.Factors.{separated-icfl-ends-rise}
+use Rattle.theory.specs.stretches.RecordPairs.{pairs-entries}
 use Rattle.buffers.proofs.PartLaws.{part, part-is, rest, rest-is, rest-back}
-use Rattle.checks.specs.Lines.{tried, mostRecords}
+use Rattle.conditions.specs.Conditions.{mostRecords}
+use Rattle.checks.specs.Lines.{Line, Door, tried, recordLines}
 use Rattle.checks.specs.Answers.{numberOf}
 use Rattle.checks.specs.declared.Checked.{Checked}
 use Rattle.checks.specs.declared.Checked.the-variants.{Passed}
 use Rattle.checks.specs.declared.Counted.{Counted}
-use Rattle.checks.proofs.LineLaws.{IsRefused, refused, unmet, filled-counted}
+use Rattle.checks.proofs.LineLaws.{IsRefused, refused, both-passed, unmet, filled-counted}
 use Rattle.checks.proofs.RecordLaws.{accepted}
-use Rattle.checks.proofs.RecordEndsLaws.{Climbs, climbs-head, climbs-tail, climbs-most, listed}
-use Rattle.icfl.specs.Icfl.{IcflDone}
+use Rattle.conditions.proofs.RecordEndsLaws.{Climbs, climbs-head, climbs-tail, climbs-most, listed}
+use Rattle.icfl.specs.Icfl.{icflLines, IcflDone}
+use Rattle.icfl.proofs.IcflCases.{icfl-filled}
 use Rattle.batch.specs.Batch.{recordsFrom, Progress, entriesUsed, cutRecord, cutRecords, batchOf, place, batchWith, batchLines, BatchDone}
 use Rattle.batch.specs.declared.Batch.{Batch}
 use Rattle.batch.specs.declared.Place.{Place}
 
-pub batch-refused : (bytes es work pairs : List ℕ) {k : Checked} {m : ℕ} → k ≡ tried (batchLines es (length bytes)) → IsRefused k → m ≡ numberOf k
-    → BatchDone bytes es work pairs (batchWith m []) work pairs
-batch-refused bytes es work pairs e h z =
+pub batch-refused : (door : Door) (bytes es work pairs : List ℕ) {k : Checked} {m : ℕ} → k ≡ tried (batchLines es (length bytes)) → IsRefused k → m ≡ numberOf k
+    → BatchDone door bytes es work pairs (batchWith m []) work pairs
+batch-refused door bytes es work pairs e h z =
     let lines = batchLines es (length bytes) in
     record {
       answer = refused lines _ (λ (i : ℕ). batchWith i []) e h z;
@@ -43,7 +45,8 @@ abbrev pub placedAt : ℕ → Counted → Batch → Batch
 placedAt i a r = record { refusal = r .refusal; places = set (r .places) i (place a) }
 
 -- one more answer takes the first place past the others
-placed-next : (answers : List Counted) (a : Counted) {i : ℕ} → length answers ≡ i → i < mostRecords → placedAt i a (batchWith 0 answers) ≡ batchWith 0 (answers ++ a ∷ [])
+placed-next : (answers : List Counted) (a : Counted) {i : ℕ} → length answers ≡ i → i < mostRecords
+    → placedAt i a (batchWith 0 answers) ≡ batchWith 0 (answers ++ a ∷ [])
 placed-next answers a {i} n l =
     let m : mostRecords - length answers ≡ suc (mostRecords - length (answers ++ a ∷ [])) = rw (length-append answers (a ∷ [])) (omega arith) in
     let blank = place (Counted.Count 0) in
@@ -55,39 +58,43 @@ placed-next answers a {i} n l =
     ∙ ap (λ (t : List Place). t ++ rest) (sym (map-append place answers (a ∷ []))))
 
 -- an answer uses no more entries than the buffer has
-used-fits : {w work left : List ℕ} {a : Counted} {work₁ left₁ : List ℕ} → IcflDone w work left a work₁ left₁ → entriesUsed a ≤ length left₁
+used-fits : {door : List Line} {w work left : List ℕ} {a : Counted} {work₁ left₁ : List ℕ} → IcflDone door w work left a work₁ left₁ → entriesUsed a ≤ length left₁
 used-fits {w} {left = left} {a = Counted.Count n} d =
-    let f = filled-counted (d .filled) in
+    let f = filled-counted (icfl-filled d) in
     omega (arith, f .1, ap length (f .2), length-append (separatedPairs w) (drop (length (separatedPairs w)) left), pairs-entries w)
 used-fits {a = Counted.Refused number} d = omega arith
 
-pub used-few : {w work left : List ℕ} {a : Counted} {work₁ left₁ : List ℕ} → IcflDone w work left a work₁ left₁ → entriesUsed a ≤ 2 * mostLetters
-used-few {w} {a = Counted.Count n} d =
-    let f = filled-counted (d .filled) in
-    omega (arith, f .1, accepted w _ (f .0) .short, rises-few (separated-icfl-ends-rise w))
+pub used-few : {w work left : List ℕ} {a : Counted} {work₁ left₁ : List ℕ} → IcflDone (recordLines w) w work left a work₁ left₁ → entriesUsed a ≤ 2 * mostLetters
+used-few {w} {work} {left} {a = Counted.Count n} d =
+    let f = filled-counted (icfl-filled d) in
+    omega (arith, f .1, accepted w (both-passed (recordLines w) (icflLines w (length work) (length left)) (f .0) .0) .short, rises-few (separated-icfl-ends-rise w))
 used-few {a = Counted.Refused number} d = omega arith
 
-pub record Cutting (bytes es work₀ pairs₀ work pairs : List ℕ) (r : Batch) (from used i : ℕ) : Type 0 where
+pub record Cutting (door : Door) (bytes es work₀ pairs₀ work pairs : List ℕ) (r : Batch) (from used i : ℕ) : Type 0 where
   pub answers : List Counted
   pub count : length answers ≡ i
   pub placed : r ≡ batchWith 0 answers
-  pub on : cutRecords (record { answers = answers; work = work; pairs = pairs; used = used }) (recordsFrom from (drop i es) bytes) ≡ batchOf bytes es work₀ pairs₀
+  pub on : cutRecords door (record { answers = answers; work = work; pairs = pairs; used = used }) (recordsFrom from (drop i es) bytes)
+      ≡ batchOf door bytes es work₀ pairs₀
   pub climbs : Climbs (length bytes) from (drop i es)
   pub few : length es ≤ mostRecords
   pub inside : i ≤ length es
   pub room : used ≤ length pairs
 
-pub cutting-starts : (bytes es work pairs : List ℕ) → tried (batchLines es (length bytes)) ≡ Passed → Cutting bytes es work pairs work pairs (batchWith 0 []) 0 0 0
-cutting-starts bytes es work pairs p =
+pub cutting-starts : (door : Door) (bytes es work pairs : List ℕ) → tried (batchLines es (length bytes)) ≡ Passed
+    → Cutting door bytes es work pairs work pairs (batchWith 0 []) 0 0 0
+cutting-starts door bytes es work pairs p =
     let l = listed es (length bytes) (unmet (batchLines es (length bytes)) p .0) in
     record { answers = []; count = refl; placed = refl; on = refl; climbs = l .climbs; few = l .few; inside = omega arith; room = omega arith }
 
-module _ {bytes es work₀ pairs₀ work pairs : List ℕ} {r : Batch} {from used i : ℕ} (g : Cutting bytes es work₀ pairs₀ work pairs r from used i) where
-  pub cutting-ends : tried (batchLines es (length bytes)) ≡ Passed → length es ≤ i → BatchDone bytes es work₀ pairs₀ r work pairs
+module _ {door : Door} {bytes es work₀ pairs₀ work pairs : List ℕ} {r : Batch} {from used i : ℕ}
+    (g : Cutting door bytes es work₀ pairs₀ work pairs r from used i) where
+  pub cutting-ends : tried (batchLines es (length bytes)) ≡ Passed → length es ≤ i → BatchDone door bytes es work₀ pairs₀ r work pairs
   unfolding recordsFrom cutRecords
   cutting-ends p l =
       let none : drop i es ≡ [] = drop-of-length-le es {i = i} l in
-      let whole = ap (λ (t : List ℕ). cutRecords (record { answers = g .answers; work = work; pairs = pairs; used = used }) (recordsFrom from t bytes)) (sym none) ∙ g .on in
+      let so-far : Progress = record { answers = g .answers; work = work; pairs = pairs; used = used } in
+      let whole = ap (λ (t : List ℕ). cutRecords door so-far (recordsFrom from t bytes)) (sym none) ∙ g .on in
       record {
         answer = rw p (g .placed ∙ ap (λ (q : Progress). batchWith 0 (q .answers)) whole);
         result = rw p (ap (λ (q : Progress). q .pairs) whole);
@@ -95,7 +102,8 @@ module _ {bytes es work₀ pairs₀ work pairs : List ℕ} {r : Batch} {from use
       }
 
   -- the entries that the next answer uses are among those left
-  pub lent-room : {w : List ℕ} {a : Counted} {n : ℕ} {work₁ left₁ : List ℕ} → IcflDone w work (rest used pairs) a work₁ left₁ → n ≡ entriesUsed a
+  pub lent-room : {lines : List Line} {w : List ℕ} {a : Counted} {n : ℕ} {work₁ left₁ : List ℕ} → IcflDone lines w work (rest used pairs) a work₁ left₁
+      → n ≡ entriesUsed a
       → length left₁ ≡ length (rest used pairs) → used + n ≤ length pairs
   lent-room d z k = omega (arith, z, k, used-fits d, ap length (rest-is used pairs), length-drop used pairs, g .room)
 
@@ -113,15 +121,16 @@ module _ {bytes es work₀ pairs₀ work pairs : List ℕ} {r : Batch} {from use
     pub record-end : getD es i 0 ≤ length bytes
     record-end = climbs-most (climbs-tail climbs-on)
 
-    pub cutting-on : {a : Counted} {work₁ left₁ : List ℕ} → IcflDone (slice from (getD es i 0) bytes) work (drop used pairs) a work₁ left₁
-        → Cutting bytes es work₀ pairs₀ work₁ (take used pairs ++ left₁) (placedAt i a r) (getD es i 0) (used + entriesUsed a) (i + 1)
+    pub cutting-on : {a : Counted} {work₁ left₁ : List ℕ}
+        → (let w = slice from (getD es i 0) bytes in IcflDone (door w) w work (drop used pairs) a work₁ left₁)
+        → Cutting door bytes es work₀ pairs₀ work₁ (take used pairs ++ left₁) (placedAt i a r) (getD es i 0) (used + entriesUsed a) (i + 1)
     unfolding recordsFrom cutRecords cutRecord
     cutting-on {a} {work₁} {left₁} d = record {
       answers = g .answers ++ a ∷ [];
       count = length-append (g .answers) (a ∷ []) ∙ omega (arith, g .count);
       placed = ap (placedAt i a) (g .placed) ∙ placed-next (g .answers) a (g .count) (omega (arith, g .few));
-      on = rw (d .filled .answer, d .filled .result, d .worked)
-          (ap (λ (t : List ℕ). cutRecords (record { answers = g .answers; work = work; pairs = pairs; used = used }) (recordsFrom from t bytes)) (sym next) ∙ g .on);
+      on = rw (d .answer, d .result, d .worked)
+          (ap (λ (t : List ℕ). cutRecords door (record { answers = g .answers; work = work; pairs = pairs; used = used }) (recordsFrom from t bytes)) (sym next) ∙ g .on);
       climbs = climbs-tail climbs-on;
       few = g .few;
       inside = omega arith;
@@ -129,7 +138,8 @@ module _ {bytes es work₀ pairs₀ work pairs : List ℕ} {r : Batch} {from use
     }
 
     -- the same, as the code lends the record and what is left of the result buffer
-    pub lent-on : {a : Counted} {n : ℕ} {work₁ left₁ : List ℕ} → IcflDone (part from (getD es i 0) bytes) work (rest used pairs) a work₁ left₁ → n ≡ entriesUsed a
-        → Cutting bytes es work₀ pairs₀ work₁ (take used pairs ++ (left₁ ++ drop (length pairs - used) (drop used pairs))) (placedAt i a r) (getD es i 0) (used + n)
+    pub lent-on : {a : Counted} {n : ℕ} {work₁ left₁ : List ℕ}
+        → (let w = part from (getD es i 0) bytes in IcflDone (door w) w work (rest used pairs) a work₁ left₁) → n ≡ entriesUsed a
+        → Cutting door bytes es work₀ pairs₀ work₁ (take used pairs ++ (left₁ ++ drop (length pairs - used) (drop used pairs))) (placedAt i a r) (getD es i 0) (used + n)
         (i + 1)
     lent-on {left₁ = left₁} d z = rw (rest-back used pairs left₁, z) (cutting-on (rw (part-is from (getD es i 0) bytes, rest-is used pairs) at d))

@@ -11,15 +11,15 @@ use lib.Seq.{take-at, drop-at, drop-drop, length-take-le}
 use lib.Dec.{eqb}
 use Rattle.words.specs.Separated.{separatedIcflEnds}
 use Rattle.words.specs.Pairs.{separatedPairs}
-use Rattle.words.specs.stretches.RecordPairs.{pairs-entries}
+use Rattle.theory.specs.stretches.RecordPairs.{pairs-entries}
 use Rattle.buffers.specs.Buffers.{cleared, written}
 use Rattle.buffers.proofs.BufferLaws.{cleared-twice}
-use Rattle.checks.specs.Lines.{Line, tried, decided}
+use Rattle.checks.specs.Lines.{Line, Door, tried, decided}
 use Rattle.checks.specs.declared.Checked.{Checked}
 use Rattle.checks.specs.declared.Checked.the-variants.{Passed, Refused}
 use Rattle.checks.specs.declared.Counted.{Counted}
-use Rattle.icfl.specs.Icfl.{icflLines, workAfter}
-use Rattle.batch.specs.Batch.{icflAnswer, icflWork, Progress, entriesUsed, cutRecord, cutRecords, recordsFrom, uncut, batchOf}
+use Rattle.icfl.specs.Icfl.{icflLines, workAfter, icflAnswer, icflWork}
+use Rattle.batch.specs.Batch.{Progress, entriesUsed, cutRecord, cutRecords, recordsFrom, uncut, batchOf}
 use Rattle.batch.specs.BatchStatements.{wasCut, longestCut, packedPairs}
 
 -- ---- the answers
@@ -29,23 +29,23 @@ abbrev pub left : Progress → List ℕ
 left p = drop (p .used) (p .pairs)
 
 -- the answers that the records add
-unfoldable pub added : Progress → List (List ℕ) → List Counted
+unfoldable pub added : Door → Progress → List (List ℕ) → List Counted
 unfolding cutRecord
-added p [] = []
-added p (w ∷ ws) = icflAnswer w (p .work) (left p) ∷ added (cutRecord p w) ws
+added door p [] = []
+added door p (w ∷ ws) = icflAnswer (door w) w (p .work) (left p) ∷ added door (cutRecord door p w) ws
 
-pub answers-split : (p : Progress) (ws : List (List ℕ)) → cutRecords p ws .answers ≡ p .answers ++ added p ws
+pub answers-split : (door : Door) (p : Progress) (ws : List (List ℕ)) → cutRecords door p ws .answers ≡ p .answers ++ added door p ws
 unfolding added cutRecords cutRecord
-answers-split p [] = sym (append-nil (p .answers))
-answers-split p (w ∷ ws) = answers-split (cutRecord p w) ws ∙ append-assoc (p .answers) _ (added (cutRecord p w) ws)
+answers-split door p [] = sym (append-nil (p .answers))
+answers-split door p (w ∷ ws) = answers-split door (cutRecord door p w) ws ∙ append-assoc (p .answers) _ (added door (cutRecord door p w) ws)
 
-pub batch-answers : (bytes es work pairs : List ℕ) → batchOf bytes es work pairs .answers ≡ added (uncut work pairs) (recordsFrom 0 es bytes)
-batch-answers bytes es work pairs = answers-split (uncut work pairs) (recordsFrom 0 es bytes)
+pub batch-answers : (door : Door) (bytes es work pairs : List ℕ) → batchOf door bytes es work pairs .answers ≡ added door (uncut work pairs) (recordsFrom 0 es bytes)
+batch-answers door bytes es work pairs = answers-split door (uncut work pairs) (recordsFrom 0 es bytes)
 
-added-length : (p : Progress) (ws : List (List ℕ)) → length (added p ws) ≡ length ws
+added-length : (door : Door) (p : Progress) (ws : List (List ℕ)) → length (added door p ws) ≡ length ws
 unfolding added
-added-length p [] = refl
-added-length p (w ∷ ws) = ap suc (added-length (cutRecord p w) ws)
+added-length door p [] = refl
+added-length door p (w ∷ ws) = ap suc (added-length door (cutRecord door p w) ws)
 
 records-count : (a : ℕ) (es bytes : List ℕ) → length (recordsFrom a es bytes) ≡ length es
 unfolding recordsFrom
@@ -53,26 +53,27 @@ records-count a [] bytes = refl
 records-count a (e ∷ es) bytes = ap suc (records-count e es bytes)
 
 -- one answer for each record end
-pub batch-count : (bytes es work pairs : List ℕ) → length (batchOf bytes es work pairs .answers) ≡ length es
-batch-count bytes es work pairs =
-    ap length (batch-answers bytes es work pairs) ∙ added-length (uncut work pairs) (recordsFrom 0 es bytes) ∙ records-count 0 es bytes
+pub batch-count : (door : Door) (bytes es work pairs : List ℕ) → length (batchOf door bytes es work pairs .answers) ≡ length es
+batch-count door bytes es work pairs =
+    ap length (batch-answers door bytes es work pairs) ∙ added-length door (uncut work pairs) (recordsFrom 0 es bytes) ∙ records-count 0 es bytes
 
 -- P holds of each answer
 abbrev pub Every : (Counted → Type 0) → List Counted → Type 0
 Every P [] = Unit {0}
 Every P (a ∷ answers) = P a × Every P answers
 
-pub every-added : (P : Counted → Type 0) → ((w work pairs : List ℕ) → P (icflAnswer w work pairs)) → (p : Progress) (ws : List (List ℕ)) → Every P (added p ws)
+pub every-added : (door : Door) (P : Counted → Type 0) → ((w work pairs : List ℕ) → P (icflAnswer (door w) w work pairs))
+    → (p : Progress) (ws : List (List ℕ)) → Every P (added door p ws)
 unfolding added
-every-added P h p [] = tt
-every-added P h p (w ∷ ws) = (h w (p .work) (left p), every-added P h (cutRecord p w) ws)
+every-added door P h p [] = tt
+every-added door P h p (w ∷ ws) = (h w (p .work) (left p), every-added door P h (cutRecord door p w) ws)
 
 -- ---- the work buffer
 
 -- one record
-single-work : (w work pairs : List ℕ)
-    → icflWork w work pairs ≡ cleared (3 * (elim (wasCut (icflAnswer w work pairs)) [ true ↦ length w | false ↦ 0 ])) work
-single-work w work pairs = go (tried (icflLines w (length work) (length pairs)))
+single-work : (door : Door) (w work pairs : List ℕ)
+    → icflWork (door w) w work pairs ≡ cleared (3 * (elim (wasCut (icflAnswer (door w) w work pairs)) [ true ↦ length w | false ↦ 0 ])) work
+single-work door w work pairs = go (tried (door w ++ icflLines w (length work) (length pairs)))
   where
     by-four : (t : Bool) → elim t [ true ↦ cleared (3 * length w) work | false ↦ work ] ≡ cleared (3 * (elim t [ true ↦ length w | false ↦ 0 ])) work
     by-four true = refl
@@ -83,15 +84,15 @@ single-work w work pairs = go (tried (icflLines w (length work) (length pairs)))
     go Passed = refl
     go (Refused number) = by-four (eqb number 4)
 
-pub folded-work : (p : Progress) (ws : List (List ℕ)) → cutRecords p ws .work ≡ cleared (3 * longestCut ws (added p ws)) (p .work)
+pub folded-work : (door : Door) (p : Progress) (ws : List (List ℕ)) → cutRecords door p ws .work ≡ cleared (3 * longestCut ws (added door p ws)) (p .work)
 unfolding added cutRecords cutRecord longestCut
-folded-work p [] = refl
-folded-work p (w ∷ ws) =
-    let n = elim (wasCut (icflAnswer w (p .work) (left p))) as (λ t. ℕ) [ true ↦ length w | false ↦ 0 ] in
-    let m = longestCut ws (added (cutRecord p w) ws) in
+folded-work door p [] = refl
+folded-work door p (w ∷ ws) =
+    let n = elim (wasCut (icflAnswer (door w) w (p .work) (left p))) as (λ t. ℕ) [ true ↦ length w | false ↦ 0 ] in
+    let m = longestCut ws (added door (cutRecord door p w) ws) in
     let z : max (3 * n) (3 * m) ≡ 3 * max n m = omega arith in
-    folded-work (cutRecord p w) ws
-    ∙ ap (cleared (3 * m)) (single-work w (p .work) (left p))
+    folded-work door (cutRecord door p w) ws
+    ∙ ap (cleared (3 * m)) (single-work door w (p .work) (left p))
     ∙ cleared-twice (3 * n) (3 * m) (p .work)
     ∙ ap (λ (k : ℕ). cleared k (p .work)) z
 
@@ -122,8 +123,8 @@ written-both vs ws buffer =
 abbrev pub Fits : Progress → Type 0
 Fits p = p .used ≤ length (p .pairs)
 
-abbrev pub linesOf : Progress → List ℕ → List Line
-linesOf p w = icflLines w (length (p .work)) (length (left p))
+abbrev pub linesOf : Door → Progress → List ℕ → List Line
+linesOf door p w = door w ++ icflLines w (length (p .work)) (length (left p))
 
 abbrev pub answerBy : Checked → List ℕ → Counted
 answerBy k w = decided k (Counted.Count (length (separatedIcflEnds w))) Counted.Refused
@@ -141,9 +142,9 @@ cutBy k p w = record {
   used = p .used + entriesUsed (answerBy k w);
 }
 
-pub cut-by : (p : Progress) (w : List ℕ) → cutRecord p w ≡ cutBy (tried (linesOf p w)) p w
+pub cut-by : (door : Door) (p : Progress) (w : List ℕ) → cutRecord door p w ≡ cutBy (tried (linesOf door p w)) p w
 unfolding cutRecord
-cut-by p w = refl
+cut-by door p w = refl
 
 pub fits-by : (k : Checked) (p : Progress) (w : List ℕ) → Fits p → Fits (cutBy k p w)
 fits-by Passed p w l =
@@ -151,26 +152,26 @@ fits-by Passed p w l =
     rw (again (p .used) (p .pairs) (separatedPairs w) l e, length-append, behind-length (p .used) (p .pairs) (separatedPairs w) l e) (omega (arith, e))
 fits-by (Refused number) p w l = rw (take-append-drop (p .used) (p .pairs)) (omega (arith, l))
 
-pub folded-pairs : (p : Progress) (ws : List (List ℕ)) → Fits p
-    → cutRecords p ws .pairs ≡ take (p .used) (p .pairs) ++ written (packedPairs ws (added p ws)) (left p)
+pub folded-pairs : (door : Door) (p : Progress) (ws : List (List ℕ)) → Fits p
+    → cutRecords door p ws .pairs ≡ take (p .used) (p .pairs) ++ written (packedPairs ws (added door p ws)) (left p)
 unfolding added cutRecords cutRecord packedPairs
-folded-pairs p [] l = sym (take-append-drop (p .used) (p .pairs))
-folded-pairs p (w ∷ ws) l = go (tried (linesOf p w)) (folded-pairs (cutRecord p w) ws (fits-by (tried (linesOf p w)) p w l))
+folded-pairs door p [] l = sym (take-append-drop (p .used) (p .pairs))
+folded-pairs door p (w ∷ ws) l = go (tried (linesOf door p w)) (folded-pairs door (cutRecord door p w) ws (fits-by (tried (linesOf door p w)) p w l))
   where
     go : (k : Checked) → (let q = cutBy k p w in
-        cutRecords q ws .pairs ≡ take (q .used) (q .pairs) ++ written (packedPairs ws (added q ws)) (left q)
-        → cutRecords q ws .pairs ≡ take (p .used) (p .pairs) ++ written (packedPairs (w ∷ ws) (answerBy k w ∷ added q ws)) (left p))
+        cutRecords door q ws .pairs ≡ take (q .used) (q .pairs) ++ written (packedPairs ws (added door q ws)) (left q)
+        → cutRecords door q ws .pairs ≡ take (p .used) (p .pairs) ++ written (packedPairs (w ∷ ws) (answerBy k w ∷ added door q ws)) (left p))
     go Passed ih =
         let u = p .used in
         let vs = separatedPairs w in
-        let more = packedPairs ws (added (cutBy Passed p w) ws) in
+        let more = packedPairs ws (added door (cutBy Passed p w) ws) in
         ih
         ∙ ap (λ (t : List ℕ). t ++ written more (left (cutBy Passed p w))) (written-take u (p .pairs) vs l (entries-are w))
         ∙ ap (λ (t : List ℕ). (take u (p .pairs) ++ vs) ++ written more t) (written-drop u (p .pairs) vs l (entries-are w))
         ∙ append-assoc (take u (p .pairs)) vs (written more (drop (length vs) (left p)))
         ∙ ap (λ (t : List ℕ). take u (p .pairs) ++ t) (written-both vs more (left p))
     go (Refused number) ih =
-        let more = packedPairs ws (added (cutBy (Refused number) p w) ws) in
+        let more = packedPairs ws (added door (cutBy (Refused number) p w) ws) in
         ih
         ∙ ap (λ (t : List ℕ). take (p .used + 0) t ++ written more (drop (p .used + 0) t)) (take-append-drop (p .used) (p .pairs))
         ∙ ap (λ (n : ℕ). take n (p .pairs) ++ written more (drop n (p .pairs))) (add-zero (p .used))

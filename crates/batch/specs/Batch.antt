@@ -4,25 +4,12 @@ use mathlib.Core.List.{List, [], _∷_, _++_, map}
 use Prim.Native.Nat.{ℕ, _+_, _-_, _*_}
 use lib.ListN.{length, take, drop, replicate}
 use lib.Seq.{slice}
-use Rattle.words.specs.Separated.{separatedIcflEnds}
-use Rattle.words.specs.Pairs.{separatedPairs}
-use Rattle.buffers.specs.Buffers.{cleared, written}
-use Rattle.checks.specs.Lines.{Line, _unless_then_, mostRecords, recordEndsLine}
+use Rattle.conditions.specs.Conditions.{mostRecords}
+use Rattle.checks.specs.Lines.{Line, Door, _unless_then_, recordEndsLine}
 use Rattle.checks.specs.declared.Counted.{Counted}
-use Rattle.icfl.specs.Icfl.{icflLines, workAfter}
+use Rattle.icfl.specs.Icfl.{icflAnswer, icflResult, icflWork}
 use Rattle.batch.specs.declared.Batch.{Batch}
 use Rattle.batch.specs.declared.Place.{Place}
-
--- ---- the single call: its answer, and what it leaves of each buffer, as in IcflDone
-
-abbrev pub icflAnswer : (w work pairs : List ℕ) → Counted
-icflAnswer w work pairs = Counted.Count (length (separatedIcflEnds w)) unless icflLines w (length work) (length pairs) then Counted.Refused
-
-abbrev pub icflResult : (w work pairs : List ℕ) → List ℕ
-icflResult w work pairs = written (separatedPairs w) pairs unless icflLines w (length work) (length pairs) then (λ number. pairs)
-
-abbrev pub icflWork : (w work pairs : List ℕ) → List ℕ
-icflWork w work pairs = cleared (3 * length w) work unless icflLines w (length work) (length pairs) then workAfter (3 * length w) work
 
 -- ---- the records, and their cutting
 
@@ -43,29 +30,30 @@ abbrev pub entriesUsed : Counted → ℕ
 entriesUsed (Counted.Count n) = 2 * n
 entriesUsed (Counted.Refused number) = 0
 
--- the next record: "Each record's answer, refusal included, is the one a single call gives with what is left of the result buffer."
-unfoldable pub cutRecord : Progress → List ℕ → Progress
-cutRecord p w =
+-- the next record, cut behind the lines of a door: "Each record's answer, refusal included, is the one a single call gives with what is left of the result
+-- buffer."
+unfoldable pub cutRecord : Door → Progress → List ℕ → Progress
+cutRecord door p w =
     let left = drop (p .used) (p .pairs) in
     record {
-      answers = p .answers ++ icflAnswer w (p .work) left ∷ [];
-      work = icflWork w (p .work) left;
-      pairs = take (p .used) (p .pairs) ++ icflResult w (p .work) left;
-      used = p .used + entriesUsed (icflAnswer w (p .work) left);
+      answers = p .answers ++ icflAnswer (door w) w (p .work) left ∷ [];
+      work = icflWork (door w) w (p .work) left;
+      pairs = take (p .used) (p .pairs) ++ icflResult (door w) w (p .work) left;
+      used = p .used + entriesUsed (icflAnswer (door w) w (p .work) left);
     }
 
 -- ".. and the next one is still tried": a fold over the records
-unfoldable pub cutRecords : Progress → List (List ℕ) → Progress
+unfoldable pub cutRecords : Door → Progress → List (List ℕ) → Progress
 unfolding cutRecord
-cutRecords p [] = p
-cutRecords p (w ∷ ws) = cutRecords (cutRecord p w) ws
+cutRecords door p [] = p
+cutRecords door p (w ∷ ws) = cutRecords door (cutRecord door p w) ws
 
 -- before the first record
 abbrev pub uncut : (work pairs : List ℕ) → Progress
 uncut work pairs = record { answers = []; work = work; pairs = pairs; used = 0 }
 
-abbrev pub batchOf : (bytes es work pairs : List ℕ) → Progress
-batchOf bytes es work pairs = cutRecords (uncut work pairs) (recordsFrom 0 es bytes)
+abbrev pub batchOf : Door → (bytes es work pairs : List ℕ) → Progress
+batchOf door bytes es work pairs = cutRecords door (uncut work pairs) (recordsFrom 0 es bytes)
 
 -- ---- the call
 
@@ -83,8 +71,8 @@ batchWith number answers = record { refusal = number; places = placesOf answers 
 abbrev pub batchLines : List ℕ → ℕ → List Line
 batchLines es n = recordEndsLine es n ∷ []
 
--- the call's promise: its answer, 0 or 10 with all places (with 10 all hold "a result of 0"), and both buffers whole
-pub record BatchDone (bytes es work pairs : List ℕ) (r : Batch) (work′ pairs′ : List ℕ) : Type 0 where
-  pub answer : r ≡ batchWith 0 (batchOf bytes es work pairs .answers) unless batchLines es (length bytes) then (λ number. batchWith number [])
-  pub result : pairs′ ≡ batchOf bytes es work pairs .pairs unless batchLines es (length bytes) then (λ number. pairs)
-  pub worked : work′ ≡ batchOf bytes es work pairs .work unless batchLines es (length bytes) then (λ number. work)
+-- the call's promise, each record cut behind a door: its answer, 0 or 10 with all places (with 10 all hold "a result of 0"), and both buffers whole
+pub record BatchDone (door : Door) (bytes es work pairs : List ℕ) (r : Batch) (work′ pairs′ : List ℕ) : Type 0 where
+  pub answer : r ≡ batchWith 0 (batchOf door bytes es work pairs .answers) unless batchLines es (length bytes) then (λ number. batchWith number [])
+  pub result : pairs′ ≡ batchOf door bytes es work pairs .pairs unless batchLines es (length bytes) then (λ number. pairs)
+  pub worked : work′ ≡ batchOf door bytes es work pairs .work unless batchLines es (length bytes) then (λ number. work)

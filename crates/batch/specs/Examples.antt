@@ -6,17 +6,18 @@ use mathlib.Core.List.{[], _∷_}
 use lib.ListN.{replicate}
 use Rattle.words.specs.Separated.{separatedIcflEnds}
 use Rattle.words.specs.Pairs.{separatedPairs}
-use Rattle.checks.specs.Lines.{tried, lastOf, falls, faultyRecordEnds}
+use Rattle.conditions.specs.Conditions.{lastOf, falls, faultyRecordEnds}
+use Rattle.checks.specs.Lines.{tried, recordLines}
 use Rattle.checks.specs.declared.Counted.the-variants.{Count, Refused}
 use Rattle.batch.specs.Batch.{recordsFrom, Progress, cutRecord, cutRecords, batchOf}
 
 -- a b | (nothing) | b b a, with a work buffer of ten entries 7 and a result buffer of seven entries 8
 abbrev three : Progress
-three = batchOf (97 ∷ 98 ∷ 98 ∷ 98 ∷ 97 ∷ []) (2 ∷ 2 ∷ 5 ∷ []) (replicate 10 7) (replicate 7 8)
+three = batchOf recordLines (97 ∷ 98 ∷ 98 ∷ 98 ∷ 97 ∷ []) (2 ∷ 2 ∷ 5 ∷ []) (replicate 10 7) (replicate 7 8)
 
 -- a b | b a, with two entries
 abbrev short : Progress
-short = batchOf (97 ∷ 98 ∷ 98 ∷ 97 ∷ []) (2 ∷ 4 ∷ []) (replicate 7 7) (8 ∷ 8 ∷ [])
+short = batchOf recordLines (97 ∷ 98 ∷ 98 ∷ 97 ∷ []) (2 ∷ 4 ∷ []) (replicate 7 7) (8 ∷ 8 ∷ [])
 
 pub record Examples : Type 0 where
   pub answers : three .answers ≡ Count 2 ∷ Refused 1 ∷ Count 1 ∷ []

@@ -5,6 +5,7 @@ pub use checks::MOST_RECORDS;
 ghost use mathlib.Core.Path.{_≡_};
 ghost use Prim.Native.Nat.{_*_, _≤_};
 ghost use Rattle.words.specs.Words.{mostLetters};
+ghost use Rattle.checks.specs.Lines.{recordLines};
 ghost use Rattle.batch.specs.Batch.{entriesUsed, BatchDone};
 
 /// What the piece cut answers for one record.
@@ -24,7 +25,7 @@ fn entries_used(answer: Counted) -> usize
     ensures { λ r. ⌜ r ≡ entriesUsed answer ⌝ }
 {
     match answer {
-        Counted::Count(n) => 2 * n,
+        Counted::Count(n) => pairs::entries(n),
         Counted::Refused(_) => 0,
     }
 }
@@ -35,7 +36,8 @@ fn entries_used(answer: Counted) -> usize
 /// lent; both buffers then stay as they were. Otherwise the first entries of `work`, three for each letter of the longest record that was cut or refused by 4,
 /// are zero.
 pub fn icfl_batch(bytes: &[u8], record_ends: &[u32], work: &mut [u16], pairs: &mut [u16]) -> Batch
-    ensures { λ r. ⌜ BatchDone (now (bytes .entry)) (now («record_ends» .entry)) (now (work .entry)) (now (pairs .entry)) r (now (work .exit)) (now (pairs .exit)) ⌝ }
+    ensures { λ r. ⌜ BatchDone recordLines (now (bytes .entry)) (now («record_ends» .entry)) (now (work .entry)) (now (pairs .entry)) r
+        (now (work .exit)) (now (pairs .exit)) ⌝ }
 {
     let mut answers = Batch {
         refusal: 0,

@@ -9,8 +9,8 @@ use lib.Seq.{take-suc-set, drop-set-add, drop-set-lt}
 use Rattle.buffers.proofs.BufferLaws.{kept-past}
 use Rattle.buffers.proofs.PartLaws.{rest, rest-is}
 use Rattle.words.specs.declared.Break.{Break}
-use Rattle.words.specs.stretches.CutSteps.{besideSeparator, unlessBeside, cutAt, CutBy}
-use Rattle.words.specs.stretches.Cuts.{Cuts, last, cut, breaksAmong, record-breaks}
+use Rattle.theory.specs.stretches.CutSteps.{besideSeparator, unlessBeside, cutAt, CutBy}
+use Rattle.theory.specs.stretches.Cuts.{Cuts, last, cut, breaksAmong, record-breaks}
 use Rattle.extension.specs.Extension.{TestRoom}
 use Rattle.breaks.specs.declared.Cut.{Cut}
 use Rattle.breaks.specs.Cutting.{CutRoom, FirstCut, notesOf, CutsFound}

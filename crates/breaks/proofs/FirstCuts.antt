@@ -7,7 +7,7 @@ use lib.ListN.{length, getD}
 use types.Run.{OneOf}
 use denote.Enum.Declared.{tagOf}
 use Rattle.words.specs.Separated.{separator}
-use Rattle.words.specs.stretches.CutSteps.{CutBy, Uncut, separator-cut, separator-last, letter-cut, letter-last}
+use Rattle.theory.specs.stretches.CutSteps.{CutBy, Uncut, separator-cut, separator-last, letter-cut, letter-last}
 use Rattle.extension.specs.declared.Extension.{Extension}
 use Rattle.extension.specs.Extension.{Verdict}
 use Rattle.extension.proofs.Extension.{the-type}

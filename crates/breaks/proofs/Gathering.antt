@@ -7,11 +7,11 @@ use lib.ListN.{length, take, drop, getD, set, length-set, drop-of-length-le}
 use lib.Seq.{slice, slice-cons, slice-empty, drop-set-lt, getD-set-same}
 use Rattle.buffers.proofs.PartLaws.{part-is}
 use Rattle.buffers.proofs.BufferLaws.{kept-past}
-use Rattle.words.specs.Statements.{keptPlaces}
+use Rattle.theory.specs.Statements.{keptPlaces}
 use Rattle.words.specs.declared.Fate.{Fate}
 use Rattle.words.specs.declared.Break.{Break}
-use Rattle.words.specs.breaks.BreakSteps.{Ended, kept, joined, keptEnds}
-use Rattle.words.specs.stretches.Cuts.{Cuts, record-ends, CutAt}
+use Rattle.theory.specs.breaks.BreakSteps.{Ended, kept, joined, keptEnds}
+use Rattle.theory.specs.stretches.Cuts.{Cuts, record-ends, CutAt}
 use Rattle.breaks.specs.declared.Counts.{Counts}
 use Rattle.breaks.specs.Cutting.{CutRoom, notesOf, Noted, CutsFound, EndsGathered, CutFound}
 use Rattle.breaks.proofs.NoteLaws.{noted-kept, few-noted, noted-cut, note-at}

@@ -8,8 +8,8 @@ use native.Mathlib.Omega.{arith}
 use lib.ListN.{length, drop, getD}
 use lib.Seq.{getD-take, getD-drop}
 use Rattle.words.specs.declared.Break.{Break}
-use Rattle.words.specs.stretches.CutSteps.{besideSeparator, unlessBeside}
-use Rattle.words.specs.stretches.Cuts.{cuts-few, CutAt, cut-at, breaksAmong, record-breaks}
+use Rattle.theory.specs.stretches.CutSteps.{besideSeparator, unlessBeside}
+use Rattle.theory.specs.stretches.Cuts.{cuts-few, CutAt, cut-at, breaksAmong, record-breaks}
 use Rattle.breaks.specs.declared.Found.{Found}
 use Rattle.breaks.specs.Cutting.{notesOf, Noted, CutFound}
 

@@ -7,8 +7,8 @@ use lib.Seq.{slice}
 use Rattle.words.specs.Words.{mostLetters}
 use Rattle.words.specs.Separated.{separatedIcflEnds, separatedBreaks}
 use Rattle.words.specs.declared.Break.{Break}
-use Rattle.words.specs.stretches.CutSteps.{CutBy, Uncut}
-use Rattle.words.specs.stretches.Cuts.{Cuts}
+use Rattle.theory.specs.stretches.CutSteps.{CutBy, Uncut}
+use Rattle.theory.specs.stretches.Cuts.{Cuts}
 use Rattle.breaks.specs.declared.Cut.{Cut}
 use Rattle.breaks.specs.declared.Counts.{Counts}
 use Rattle.breaks.specs.declared.Found.{Found}

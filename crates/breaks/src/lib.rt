@@ -6,7 +6,7 @@ ghost use mathlib.Core.Path.{_≡_};
 ghost use Prim.Native.Nat.{_<_};
 ghost use lib.ListN.{length};
 ghost use Rattle.extension.specs.Extension.{TestRoom};
-ghost use Rattle.words.specs.stretches.CutSteps.{besideSeparator};
+ghost use Rattle.theory.specs.stretches.CutSteps.{besideSeparator};
 ghost use Rattle.breaks.specs.Cutting.{CutRoom, FirstCut, Noted, CutsFound, EndsGathered, CutFound};
 
 /// Where the ends and the notes of the cuts stand in the work buffer, for a word of n letters: the ends from entry `first` to entry n, the notes, two entries a cut,

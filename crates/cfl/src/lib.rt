@@ -1,102 +1,46 @@
-//! The Lyndon factorization in the inverse order (paper 01: the strict cut), stretch by stretch (request 103), by Duval's algorithm on the
-//! shared scan.
+//! The Lyndon factorization in the inverse order (paper 01: the strict cut).
 use checks::Checked;
 use checks::Counted;
-use scan::Scan;
 ghost use mathlib.Core.Path.{_≡_};
-ghost use mathlib.Core.List.{[], _∷_};
+ghost use mathlib.Core.List.{[]};
 ghost use Prim.Native.Nat.{_≤_};
 ghost use lib.ListN.{length};
 ghost use Rattle.words.specs.Words.{mostLetters};
-ghost use Rattle.words.specs.Separated.{separatedCflInEnds};
-ghost use Rattle.checks.specs.Lines.{tried, resultLine};
-ghost use Rattle.cfl.specs.CflIn.{CflInDone, Room, RunAsked, RunAt, Walked};
-
-// A factor that is repeated: its length, and the place before which each of its repetitions begins.
-struct Run {
-    length: usize,
-    until: usize,
-}
-
-// The run at `from`: the one that is known, a separator alone, or that of the longest anti-Lyndon prefix there, from a scan. A scan that
-// begins below the separator stops before the next one by itself, since no letter is larger.
-fn run_at(word: &[u8], from: usize, known: Run) -> Run
-    requires { ⌜ RunAsked (now word) from known ⌝ }
-    ensures { λ r. ⌜ RunAt (now (word .entry)) from r ⌝ }
-{
-    if from < known.until {
-        return known;
-    }
-    if word[from] == words::SEPARATOR {
-        return Run {
-            length: 1,
-            until: from + 1,
-        };
-    }
-    let start = Scan::start();
-    let s = scan::scan_on(&word[from..], start);
-    let border = s.border;
-    Run {
-        length: s.length - border,
-        until: from + border + 1,
-    }
-}
-
-// Counts the factors, and stores their ends where `store` says so.
-fn walk(word: &[u8], ends: &mut [u16], store: bool) -> usize
-    requires { ⌜ Room (now word) (now ends) store ⌝ }
-    ensures { λ r. ⌜ Walked (now (word .entry)) (now (ends .entry)) store r (now (ends .exit)) ⌝ }
-{
-    let mut run = Run {
-        length: 0,
-        until: 0,
-    };
-    let mut from: usize = 0;
-    let mut count: usize = 0;
-    while from < word.len() {
-        run = run_at(word, from, run);
-        from += run.length;
-        if store {
-            ends[count] = from as u16;
-        }
-        count += 1;
-    }
-    count
-}
-
-/// The number of factors of a word: of a record that was accepted, or of a part of one. Nothing is stored.
-pub fn count_factors(word: &[u8]) -> usize
-    requires { ⌜ length (now word) ≤ mostLetters ⌝ }
-    ensures { λ r. ⌜ r ≡ length (separatedCflInEnds (now (word .entry))) ⌝ }
-{
-    let mut none = [0u16; 0];
-    walk(word, &mut none, false)
-}
+ghost use Rattle.checks.specs.Lines.{tried, recordLines, Accepted};
+ghost use Rattle.cfl.specs.CflIn.{cflInLines, CflInDone};
 
 // Line 4. There are no more factors than letters, so they are counted only for a buffer that is shorter than the word.
 fn check_room(word: &[u8], entries: usize) -> Checked
     requires { ⌜ length (now word) ≤ mostLetters ⌝ }
-    ensures { λ r. ⌜ r ≡ tried (resultLine entries (length (separatedCflInEnds (now (word .entry)))) ∷ []) ⌝ }
+    ensures { λ r. ⌜ r ≡ tried (cflInLines (now (word .entry)) entries) ⌝ }
 {
     if word.len() <= entries {
         return Checked::Passed;
     }
-    checks::check_result(entries, count_factors(word))
+    checks::check_result(entries, strict::count_factors(word))
+}
+
+/// The strict cut of an accepted record: the call's own line, 4, and its work.
+pub fn cut(word: &[u8], ends: &mut [u16]) -> Counted
+    requires { ⌜ Accepted (now word) ⌝ }
+    ensures { λ r. ⌜ CflInDone [] (now (word .entry)) (now (ends .entry)) r (now (ends .exit)) ⌝ }
+{
+    let room = check_room(word, ends.len());
+    let Checked::Passed = room else {
+        return Counted::Refused(room.number());
+    };
+    let count = strict::walk(word, ends, true);
+    Counted::Count(count)
 }
 
 /// The strict cut: writes the ends of the factors from entry 0 on, and answers their number. Each separator is a factor, and each stretch
 /// between two is cut by itself. Refusals 1, 2, 4.
 pub fn cfl_in(word: &[u8], ends: &mut [u16]) -> Counted
-    ensures { λ r. ⌜ CflInDone (now (word .entry)) (now (ends .entry)) r (now (ends .exit)) ⌝ }
+    ensures { λ r. ⌜ CflInDone (recordLines (now (word .entry))) (now (word .entry)) (now (ends .entry)) r (now (ends .exit)) ⌝ }
 {
-    let admitted = checks::check_record(word);
-    let Checked::Passed = admitted else {
-        return Counted::Refused(admitted.number());
+    let recorded = checks::check_record(word);
+    let Checked::Passed = recorded else {
+        return Counted::Refused(recorded.number());
     };
-    let room = check_room(word, ends.len());
-    let Checked::Passed = room else {
-        return Counted::Refused(room.number());
-    };
-    let count = walk(word, ends, true);
-    Counted::Count(count)
+    cut(word, ends)
 }

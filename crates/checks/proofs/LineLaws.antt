@@ -1,7 +1,8 @@
 -- The lines of the table, whatever they are: what is known in the two branches of `let Checked::Passed = k else` (passed, refused, not-both), lines
--- that are tried in two parts (both, refused-first, passed-first), what it tells that all pass (unmet, all-pass), what an answer says (reading, said), which
--- numbers can come (first-listed, zero-passes, numbered-is, unless-but), and calls that fill a result buffer (filled-refused, filled-done, and back:
--- filled-counted, filled-entries, filled-front, filled-number).
+-- that are tried in two parts (both, refused-first, passed-first), at a call's door and past it (refused-at-door, past-door, both-pass, both-passed), what it
+-- tells that all pass (unmet, all-pass), what an answer says (reading, said), which numbers can come (first-listed, zero-passes, numbered-is, unless-but), and
+-- calls that fill a result buffer (filled-refused, filled-done; at a door filled-at-door, filled-past-door; and back: filled-counted, filled-entries,
+-- filled-front, filled-number).
 use mathlib.Core.Path.{_≡_, refl, ap, sym, _∙_}
 use mathlib.Core.Bool.{Bool, true, false, not, _||_, _&&_, true≢false}
 use mathlib.Core.Logic.{_⊎_, inl, inr}
@@ -43,6 +44,10 @@ is-refused (Refused number) result refusal h = refl
 pub not-both : {k : Checked} {e : ℕ} → k ≡ Refused e → ¬ (k ≡ Passed)
 not-both x y = let b : _≡_ {A = ℕ} 0 1 = cc in absurd (omega arith)
 
+not-passed : (k : Checked) → IsRefused k → ¬ (k ≡ Passed)
+not-passed Passed h p = let z : _≡_ {A = ℕ} 0 1 = h in absurd (omega arith)
+not-passed (Refused number) h p = not-both refl p
+
 pub passed : (lines : List Line) {k : Checked} → k ≡ tried lines → IsPassed k → tried lines ≡ Passed
 passed lines {k} e h = sym e ∙ is-passed k h
 
@@ -72,6 +77,27 @@ refused-first lines more {k} e h = both lines more (same k h) e refl
 pub passed-first : (lines more : List Line) {k : Checked} → tried lines ≡ Passed → k ≡ tried more → k ≡ tried (lines ++ more)
 passed-first lines more p e = e ∙ (rw p at (parts lines more))
 
+-- past the lines at a call's door only its own lines are tried
+pub past-door : {A : Type 0} (door own : List Line) (result : A) (refusal : ℕ → A) → tried door ≡ Passed
+    → (result unless own then refusal) ≡ (result unless door ++ own then refusal)
+past-door door own result refusal p = ap (λ (t : Checked). decided t result refusal) (passed-first door own p refl)
+
+pub both-pass : (door own : List Line) → tried door ≡ Passed → tried own ≡ Passed → tried (door ++ own) ≡ Passed
+both-pass door own p q = sym (passed-first door own p (sym q))
+
+-- where all pass, those at the door do and so do the call's own
+pub both-passed : (door own : List Line) → tried (door ++ own) ≡ Passed → (tried door ≡ Passed) × (tried own ≡ Passed)
+both-passed door own e = go (tried door) (tried own) (parts door own ∙ e)
+  where
+    go : (k l : Checked) → firstOf k l ≡ Passed → (k ≡ Passed) × (l ≡ Passed)
+    go Passed l e = (refl, e)
+    go (Refused number) l e = absurd (not-both refl e)
+
+-- a call that is refused at its door
+pub refused-at-door : {A : Type 0} (door own : List Line) (result : A) (refusal : ℕ → A) {k : Checked} {m : ℕ}
+    → k ≡ tried door → IsRefused k → m ≡ numberOf k → refusal m ≡ result unless door ++ own then refusal
+refused-at-door door own result refusal e h z = refused (door ++ own) result refusal (refused-first door own e h) h z
+
 -- more lines that pass where the others do change nothing
 pub first-alone : (lines more : List Line) → (tried lines ≡ Passed → tried more ≡ Passed) → tried (lines ++ more) ≡ tried lines
 first-alone lines more h = sym (parts lines more) ∙ go (tried lines) h
@@ -97,11 +123,6 @@ unfolding tried
 all-pass [] u = refl
 all-pass (number when met ∷ lines) u = rw (u .0) (all-pass lines (u .1))
 
--- a condition of two parts
-pub either-unmet : (a b : Bool) → (a || b) ≡ false → (a ≡ false) × (b ≡ false)
-either-unmet true b e = absurd (true≢false e)
-either-unmet false b e = (refl, e)
-
 -- ---- which numbers can come
 
 -- what is read off an answer
@@ -125,12 +146,34 @@ abbrev pub everyNumber : (ℕ → Bool) → List Line → Bool
 everyNumber test [] = true
 everyNumber test (number when met ∷ lines) = test number && everyNumber test lines
 
+pub every-joined : (test : ℕ → Bool) (lines more : List Line) → everyNumber test lines ≡ true → everyNumber test more ≡ true
+    → everyNumber test (lines ++ more) ≡ true
+every-joined test [] more e f = f
+every-joined test (number when met ∷ lines) more e f =
+    let u = both-true (test number) (everyNumber test lines) e in
+    rw (u .0) (every-joined test lines more (u .1) f)
+
+pub every-weaker : (test other : ℕ → Bool) → ((n : ℕ) → test n ≡ true → other n ≡ true) → (lines : List Line) → everyNumber test lines ≡ true
+    → everyNumber other lines ≡ true
+every-weaker test other h [] e = refl
+every-weaker test other h (number when met ∷ lines) e =
+    let u = both-true (test number) (everyNumber test lines) e in
+    rw (h number (u .0)) (every-weaker test other h lines (u .1))
+
 -- so it holds for the number of the line that refuses
-number-tested : (test : ℕ → Bool) (lines : List Line) → everyNumber test lines ≡ true → (tried lines ≡ Passed) ⊎ (test (numberOf (tried lines)) ≡ true)
+pub number-tested : (test : ℕ → Bool) (lines : List Line) → everyNumber test lines ≡ true → (tried lines ≡ Passed) ⊎ (test (numberOf (tried lines)) ≡ true)
 unfolding tried
 number-tested test [] e = inl refl
 number-tested test (number when true ∷ lines) e = inr (both-true (test number) (everyNumber test lines) e .0)
 number-tested test (number when false ∷ lines) e = number-tested test lines (both-true (test number) (everyNumber test lines) e .1)
+
+pub refused-tested : (test : ℕ → Bool) (lines : List Line) {k : Checked} {m : ℕ} → everyNumber test lines ≡ true → k ≡ tried lines → IsRefused k → m ≡ numberOf k
+    → test m ≡ true
+refused-tested test lines {k} {m} every e h z = go (number-tested test lines every)
+  where
+    go : (tried lines ≡ Passed) ⊎ (test (numberOf (tried lines)) ≡ true) → test m ≡ true
+    go (inl p) = absurd (not-passed k h (e ∙ p))
+    go (inr t) = ap test (z ∙ ap numberOf e) ∙ t
 
 abbrev pub among : List ℕ → ℕ → Bool
 among [] n = false
@@ -143,6 +186,22 @@ among-is (m ∷ ms) n e = go (eqb n m) refl e (λ h. among-is ms n h)
     go : (t : Bool) → eqb n m ≡ t → (t || among ms n) ≡ true → (among ms n ≡ true → List·Memᴰ n ms) → List·Memᴰ n (m ∷ ms)
     go true z e later = List·Memᴰ·head (eqb-true n m z)
     go false z e later = List·Memᴰ·tail (later e)
+
+pub among-first : (ms ns : List ℕ) (n : ℕ) → among ms n ≡ true → among (ms ++ ns) n ≡ true
+among-first [] ns n e = absurd (true≢false (sym e))
+among-first (m ∷ ms) ns n e = go (eqb n m) e (among-first ms ns n)
+  where
+    go : (t : Bool) → (t || among ms n) ≡ true → (among ms n ≡ true → among (ms ++ ns) n ≡ true) → (t || among (ms ++ ns) n) ≡ true
+    go true e later = refl
+    go false e later = later e
+
+pub among-second : (ms ns : List ℕ) (n : ℕ) → among ns n ≡ true → among (ms ++ ns) n ≡ true
+among-second [] ns n e = e
+among-second (m ∷ ms) ns n e = go (eqb n m) (among-second ms ns n e)
+  where
+    go : (t : Bool) → among (ms ++ ns) n ≡ true → (t || among (ms ++ ns) n) ≡ true
+    go true h = refl
+    go false h = h
 
 -- the numbers of a call's lines are its refusals
 pub first-listed : (lines : List Line) (ms : List ℕ) → everyNumber (among ms) lines ≡ true → (tried lines ≡ Passed) ⊎ List·Memᴰ (numberOf (tried lines)) ms
@@ -198,6 +257,18 @@ filled-refused {lines = lines} n vs buffer e h z = record {
 pub filled-done : {lines : List Line} {n m : ℕ} {vs buffer buffer′ : List ℕ} → tried lines ≡ Passed → m ≡ n → buffer′ ≡ written vs buffer
     → Filled lines n vs buffer (Counted.Count m) buffer′
 filled-done p z e = record { answer = rw p (ap (λ (t : ℕ). Counted.Count t) z); result = rw p e }
+
+-- the two ways through a door
+pub filled-at-door : (door own : List Line) (n : ℕ) (vs buffer : List ℕ) {k : Checked} {m : ℕ} → k ≡ tried door → IsRefused k → m ≡ numberOf k
+    → Filled (door ++ own) n vs buffer (Counted.Refused m) buffer
+filled-at-door door own n vs buffer e h z = filled-refused n vs buffer (refused-first door own e h) h z
+
+pub filled-past-door : (door : List Line) {own : List Line} {n : ℕ} {vs buffer buffer′ : List ℕ} {r : Counted} → tried door ≡ Passed → Filled own n vs buffer r buffer′
+    → Filled (door ++ own) n vs buffer r buffer′
+filled-past-door door {own} {n} {vs} {buffer} p f = record {
+  answer = f .answer ∙ past-door door own (Counted.Count n) (λ (i : ℕ). Counted.Refused i) p;
+  result = f .result ∙ past-door door own (written vs buffer) (λ (i : ℕ). buffer) p;
+}
 
 -- what the cases of the answer tell
 pub filled-counted : {lines : List Line} {n m : ℕ} {vs buffer buffer′ : List ℕ} → Filled lines n vs buffer (Counted.Count m) buffer′

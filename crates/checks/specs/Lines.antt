@@ -1,13 +1,14 @@
 -- DEFINITIONS. Paper 01's table of refusals, and the lines that requests add. A line is a number under a condition; a call tries its lines in their
 -- order, and what it answers and leaves in a buffer is `result unless lines then refusal`. Which lines a call tries stands with the call.
-use mathlib.Core.Bool.{Bool, true, false, not, _||_}
+use mathlib.Core.Bool.{Bool, true, false, _||_}
 use mathlib.Core.List.{List, [], _∷_}
-use Prim.Native.Nat.{ℕ, _-_, _%_}
+use Prim.Native.Nat.{ℕ, _≤_, _<_}
 use lib.ListN.{length}
 use lib.Dec.{leb, ltb, eqb}
 use Rattle.words.specs.Words.{mostLetters}
 use Rattle.words.specs.Separated.{isMarked}
-use Rattle.words.specs.Pairs.{endsOf}
+use Rattle.conditions.specs.Conditions.{faultyRecordEnds}
+use Rattle.pairs.specs.PairedList.{faultyPairs}
 use Rattle.checks.specs.declared.Checked.{Checked}
 use Rattle.checks.specs.declared.Checked.the-variants.{Passed, Refused}
 
@@ -38,6 +39,15 @@ result unless lines then refusal = decided (tried lines) result refusal
 abbrev pub recordLines : List ℕ → List Line
 recordLines w = 1 when eqb (length w) 0 ∷ 2 when ltb mostLetters (length w) ∷ []
 
+-- the lines at a call's door, for each record: it tries them before its own. Those of every call are the record's.
+abbrev pub Door : Type 0
+Door = List ℕ → List Line
+
+-- a record that passes the record's lines
+pub record Accepted (w : List ℕ) : Type 0 where
+  pub nonempty : 0 < length w
+  pub short : length w ≤ mostLetters
+
 -- "fewer entries than" are needed, in the work buffer
 abbrev pub workLine : ℕ → ℕ → Line
 workLine entries needed = 3 when ltb entries needed
@@ -54,34 +64,7 @@ rangeLine n first end = 5 when (leb end first || ltb n end)
 abbrev pub startLine : ℕ → ℕ → ℕ → Line
 startLine first end start = 6 when (ltb start first || leb end start)
 
--- each entry is below the next one
-unfoldable pub rising : List ℕ → Bool
-rising [] = true
-rising (a ∷ []) = true
-rising (a ∷ b ∷ es) = elim (ltb a b) [ true ↦ rising (b ∷ es) | false ↦ false ]
-
--- the last entry of a ∷ es
-unfoldable pub lastOf : ℕ → List ℕ → ℕ
-lastOf a [] = a
-lastOf a (b ∷ es) = lastOf b es
-
--- "empty, first end 0, not strictly rising, or last end not the length"
-unfoldable pub faultyEnds : List ℕ → ℕ → Bool
-unfolding rising lastOf
-faultyEnds [] n = true
-faultyEnds (e ∷ es) n = eqb e 0 || (not (rising (e ∷ es)) || not (eqb (lastOf e es) n))
-
--- request 108: "a count that is 0 or above its piece's length", in a list of pairs, the first of which is of a piece that begins at i
-unfoldable pub faultyCounts : ℕ → List ℕ → Bool
-faultyCounts i [] = false
-faultyCounts i (e ∷ []) = false
-faultyCounts i (e ∷ c ∷ ps) = eqb c 0 || (ltb (e - i) c || faultyCounts e ps)
-
--- "The reader and the summary take the paired list and refuse by 7 also an odd number of entries, or a count .."
-unfoldable pub faultyPairs : List ℕ → ℕ → Bool
-unfolding endsOf faultyEnds faultyCounts
-faultyPairs ps n = faultyEnds (endsOf ps) n || (eqb (length ps % 2) 1 || faultyCounts 0 ps)
-
+-- request 108: the list of pairs is faulty
 abbrev pub pairsLine : List ℕ → ℕ → Line
 pairsLine ps n = 7 when faultyPairs ps n
 
@@ -93,22 +76,6 @@ numberLine number count = 8 when leb count number
 abbrev pub markLine : List ℕ → Line
 markLine w = 9 when isMarked w
 
--- ---- request 105: the list of where the records of a batch end (paper 02: a card's list)
-
-abbrev pub mostRecords : ℕ
-mostRecords = 64
-
--- "falls somewhere": an entry is below the one before it
-unfoldable pub falls : List ℕ → Bool
-falls [] = false
-falls (a ∷ []) = false
-falls (a ∷ b ∷ es) = ltb b a || falls (b ∷ es)
-
--- "the list is empty, has more than 64 ends, falls somewhere, or does not end with the bytes lent"
-unfoldable pub faultyRecordEnds : List ℕ → ℕ → Bool
-unfolding falls lastOf
-faultyRecordEnds [] n = true
-faultyRecordEnds (e ∷ es) n = ltb mostRecords (length (e ∷ es)) || (falls (e ∷ es) || not (eqb (lastOf e es) n))
-
+-- request 105: the list of where the records of a batch end is faulty
 abbrev pub recordEndsLine : List ℕ → ℕ → Line
 recordEndsLine es n = 10 when faultyRecordEnds es n

@@ -1,18 +1,16 @@
 //! The table of refusals, paper 01's lines and those that requests add: a function for each line. A call puts its admission together from
 //! these by `then`, in the table's order, and passes a refusal up with its number unchanged.
+pub use conditions::MOST_RECORDS;
+use conditions::faulty_record_ends;
+use conditions::is_marked;
 ghost use mathlib.Core.Path.{_≡_};
 ghost use mathlib.Core.List.{[], _∷_};
 ghost use Rattle.checks.specs.Lines.{_when_, tried};
 ghost use Rattle.checks.specs.Lines.{recordLines, workLine, resultLine, rangeLine, startLine, pairsLine, numberLine, markLine, recordEndsLine};
-ghost use Rattle.checks.specs.Lines.{faultyPairs, faultyRecordEnds};
-ghost use Rattle.words.specs.Separated.{isMarked};
 ghost use Rattle.checks.specs.Answers.{numberOf, firstOf};
 
 /// The most letters that a record may have.
 pub const MOST: usize = 4096;
-
-/// The most records that a batch may have.
-pub const MOST_RECORDS: usize = 64;
 
 /// What a check says: passed, or the number of the refusal.
 pub enum Checked {
@@ -94,35 +92,11 @@ pub fn check_start(first: usize, end: usize, start: usize) -> Checked
     Checked::when(6, (start < first) | (end <= start))
 }
 
-// Whether a list of pairs is empty or has an odd number of entries, its ends do not rise strictly from above 0 to the record's length, or a count is 0 or above
-// its part's length.
-fn faulty_pairs(pairs: &[u16], letters: usize) -> bool
-    ensures { λ r. ⌜ r ≡ faultyPairs (now (pairs .entry)) letters ⌝ }
-{
-    let entries = pairs.len();
-    if (entries == 0) | (entries % 2 == 1) {
-        return true;
-    }
-    let mut last: usize = 0;
-    let mut i: usize = 0;
-    while i < entries {
-        let end = pairs[i] as usize;
-        let count = pairs[i + 1] as usize;
-        // With a count above 0 the second test is also that the end is above the last.
-        if (count == 0) | (end < last + count) {
-            return true;
-        }
-        last = end;
-        i += 2;
-    }
-    last != letters
-}
-
 /// Line 7: a list of pairs for a record of so many letters.
 pub fn check_pairs(pairs: &[u16], letters: usize) -> Checked
     ensures { λ r. ⌜ r ≡ tried (pairsLine (now (pairs .entry)) letters ∷ []) ⌝ }
 {
-    Checked::when(7, faulty_pairs(pairs, letters))
+    Checked::when(7, pairs::faulty_pairs(pairs, letters))
 }
 
 /// Line 8: a part's number against the number of ends.
@@ -132,45 +106,11 @@ pub fn check_number(number: usize, count: usize) -> Checked
     Checked::when(8, count <= number)
 }
 
-// Whether the word holds the separator. Every letter is looked at, without a branch, so that the compiler can look at many at once.
-fn is_marked(word: &[u8]) -> bool
-    ensures { λ r. ⌜ r ≡ isMarked (now (word .entry)) ⌝ }
-{
-    let mut marked = false;
-    let mut i: usize = 0;
-    while i < word.len() {
-        marked = marked | (word[i] == words::SEPARATOR);
-        i += 1;
-    }
-    marked
-}
-
 /// Line 9: a record that holds the separator.
 pub fn check_marks(word: &[u8]) -> Checked
     ensures { λ r. ⌜ r ≡ tried (markLine (now (word .entry)) ∷ []) ⌝ }
 {
     Checked::when(9, is_marked(word))
-}
-
-// Whether a list of record ends is empty or too long, falls somewhere, or does not end at the number of bytes.
-fn faulty_record_ends(record_ends: &[u32], bytes: usize) -> bool
-    ensures { λ r. ⌜ r ≡ faultyRecordEnds (now («record_ends» .entry)) bytes ⌝ }
-{
-    let records = record_ends.len();
-    if (records == 0) | (MOST_RECORDS < records) {
-        return true;
-    }
-    let mut last: u32 = 0;
-    let mut i: usize = 0;
-    while i < records {
-        let end = record_ends[i];
-        if end < last {
-            return true;
-        }
-        last = end;
-        i += 1;
-    }
-    last as usize != bytes
 }
 
 /// Line 10: a list of record ends for so many bytes.

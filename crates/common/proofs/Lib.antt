@@ -1,3 +1,4 @@
-pub mod ZeroLaws
-pub mod EightLaws
+pub mod NumberLaws
 pub mod OrderLaws
+pub mod BeforeLaws
+pub mod InOrderLaws

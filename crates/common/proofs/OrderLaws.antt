@@ -1,5 +1,5 @@
--- Two words where they part: the sign by the letters there (letters-ordered), or sign and number by the lengths (prefix-ordered). As eight bits it is read back as it was
--- (sign-read), and the test `sign < 0` tells whether x comes before y (sign-decides).
+-- Two words where they part: the sign by the letters there (letters-ordered), or sign and number by the lengths (prefix-ordered). As eight bits the sign
+-- is read back as it was (sign-read), and the test `sign < 0` tells whether x comes before y (sign-decides).
 use mathlib.Core.Path.{_≡_, refl}
 use mathlib.Core.List.{List}
 use Prim.Native.Nat.{ℕ, _≤_, min}
@@ -10,10 +10,10 @@ use lib.Signed.{ltZ}
 use mir.Syntax.{w8}
 use mir.Val.{toZ, ofZ}
 use Rattle.words.specs.Words.{_≺_, mismatch}
-use Rattle.words.specs.orders.Decisions.{Decides, holds, fails}
-use Rattle.words.specs.orders.InverseLaws.{≺-≼, ≺-irrefl, ≺-not-≼}
-use Rattle.words.specs.orders.CommonLength.{Matched, Agree, agree-unique, agree-sym, agree-same, agree-shorter, agree-≪, agree-≪-sym}
-use Rattle.words.specs.orders.WordSigns.{SignOfWords, before, same, after}
+use Rattle.theory.specs.orders.Decisions.{Decides, holds, fails}
+use Rattle.theory.specs.orders.InverseLaws.{≺-≼, ≺-irrefl, ≺-not-≼}
+use Rattle.theory.specs.orders.CommonLength.{Matched, Agree, agree-unique, agree-sym, agree-same, agree-shorter, agree-≪, agree-≪-sym}
+use Rattle.theory.specs.orders.WordSigns.{SignOfWords, before, same, after}
 use Rattle.common.specs.declared.order.Order.{Order}
 use Rattle.common.specs.Steps.{LetterSign, PrefixSign, PrefixOrdered, PartedAt, Ordered}
 

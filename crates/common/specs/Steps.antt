@@ -5,8 +5,8 @@ use Prim.Native.Nat.{ℕ, _≤_, _<_, min}
 use lib.ListN.{length}
 use lib.IntN.{ℤ, pos, negsuc}
 use Rattle.words.specs.Words.{commonLength}
-use Rattle.words.specs.orders.CommonLength.{Agree}
-use Rattle.words.specs.orders.WordSigns.{SignOfWords}
+use Rattle.theory.specs.orders.CommonLength.{Agree}
+use Rattle.theory.specs.orders.WordSigns.{SignOfWords}
 use Rattle.common.specs.declared.order.Order.{Order}
 
 -- both words have more than l letters, of which the first l are equal and the next two are not

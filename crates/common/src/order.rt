@@ -1,10 +1,10 @@
 //! Two words in the inverse order, and how far they agree.
-use super::eights::eight_at;
-use super::eights::equal_bytes;
+use eights::eight_at;
+use eights::equal_bytes;
 ghost use mathlib.Core.Path.{_≡_};
 ghost use Prim.Native.Nat.{min};
 ghost use Rattle.words.specs.Words.{commonLength};
-ghost use Rattle.words.specs.orders.CommonLength.{Matched};
+ghost use Rattle.theory.specs.orders.CommonLength.{Matched};
 ghost use Rattle.common.specs.Steps.{LetterSign, PrefixOrdered, PartedAt, Ordered};
 
 /// Two words x and y compared: −1 if x comes before y in the inverse order, 0 if they are the same, +1 otherwise; and the number of

@@ -1,20 +1,18 @@
--- The comparison's lines pass just where both starts lie in a range of a word that is not too long (within, within-passes).
+-- The comparison's own lines pass just where both starts lie in a range of the word (within, within-passes).
 use mathlib.Core.Path.{_≡_}
 use mathlib.Core.List.{List}
 use Prim.Native.Nat.{ℕ, _≤_, _<_}
 use native.Mathlib.Omega.{arith}
 use lib.ListN.{length}
 use lib.Dec.{leb, ltb}
-use borrow.Author.Tests.{ltb-false, leb-false, ne-eqb, le-ltb, lt-leb}
-use Rattle.words.specs.Words.{mostLetters}
+use borrow.Author.Tests.{ltb-false, leb-false, le-ltb, lt-leb}
 use Rattle.checks.specs.declared.Checked.the-variants.{Passed}
 use Rattle.checks.specs.Lines.{tried}
-use Rattle.checks.proofs.LineLaws.{unmet, either-unmet, all-pass}
-use Rattle.checks.proofs.RecordLaws.{accepted}
+use Rattle.conditions.proofs.ConditionLaws.{either-unmet}
+use Rattle.checks.proofs.LineLaws.{unmet, all-pass}
 use Rattle.compare.specs.Compare.{compareLines}
 
 pub record Within (w : List ℕ) (first end start other : ℕ) : Type 0 where
-  pub short : length w ≤ mostLetters
   pub inside : end ≤ length w
   pub start-from : first ≤ start
   pub start-below : start < end
@@ -22,14 +20,13 @@ pub record Within (w : List ℕ) (first end start other : ℕ) : Type 0 where
   pub other-below : other < end
 
 module _ (w : List ℕ) (first end start other : ℕ) where
-  pub within : tried (compareLines w first end start other) ≡ Passed → Within w first end start other
+  pub within : tried (compareLines (length w) first end start other) ≡ Passed → Within w first end start other
   within e =
-      let u = unmet (compareLines w first end start other) e in
-      let range = either-unmet (leb end first) (ltb (length w) end) (u .1 .1 .0) in
-      let one = either-unmet (ltb start first) (leb end start) (u .1 .1 .1 .0) in
-      let two = either-unmet (ltb other first) (leb end other) (u .1 .1 .1 .1 .0) in
+      let u = unmet (compareLines (length w) first end start other) e in
+      let range = either-unmet (leb end first) (ltb (length w) end) (u .0) in
+      let one = either-unmet (ltb start first) (leb end start) (u .1 .0) in
+      let two = either-unmet (ltb other first) (leb end other) (u .1 .1 .0) in
       record {
-        short = accepted w _ e .short;
         inside = ltb-false (length w) end (range .1);
         start-from = ltb-false start first (one .0);
         start-below = leb-false end start (one .1);
@@ -37,13 +34,11 @@ module _ (w : List ℕ) (first end start other : ℕ) where
         other-below = leb-false end other (two .1);
       }
 
-  pub within-passes : Within w first end start other → tried (compareLines w first end start other) ≡ Passed
+  pub within-passes : Within w first end start other → tried (compareLines (length w) first end start other) ≡ Passed
   within-passes x =
       let range : first < end = omega (arith, x .start-from, x .start-below) in
-      all-pass (compareLines w first end start other)
+      all-pass (compareLines (length w) first end start other)
       (rw (
-        ne-eqb (length w) 0 (λ z. omega (arith, range, x .inside)),
-        le-ltb mostLetters (length w) (x .short),
         lt-leb end first range,
         le-ltb (length w) end (x .inside),
         le-ltb start first (x .start-from),

@@ -5,7 +5,7 @@ use Prim.Native.Nat.{ℕ}
 use lib.ListN.{length}
 use lib.IntN.{ℤ, pos}
 use Rattle.words.specs.Words.{sign, commonWithin}
-use Rattle.checks.specs.Lines.{Line, _unless_then_, recordLines, rangeLine, startLine}
+use Rattle.checks.specs.Lines.{Line, _unless_then_, rangeLine, startLine}
 use Rattle.checks.specs.declared.Checked.{Checked}
 use Rattle.compare.specs.declared.suffixes.Comparison.{Comparison}
 use Rattle.compare.specs.declared.suffixes.Comparison.the-variants.{Order, Refused}
@@ -24,14 +24,14 @@ abbrev pub commonOf : Comparison → ℕ
 commonOf (Order sign common) = common
 commonOf (Refused number) = 0
 
--- the lines of the table that the comparison tries: 1, 2, 5 and 6, the last for each of the two starts
-abbrev pub compareLines : List ℕ → ℕ → ℕ → ℕ → ℕ → List Line
-compareLines w first end start other = recordLines w ++ rangeLine (length w) first end ∷ startLine first end start ∷ startLine first end other ∷ []
+-- the comparison's own lines, tried past those at its door: 5 and 6, the last for each of the two starts
+abbrev pub compareLines : ℕ → ℕ → ℕ → ℕ → ℕ → List Line
+compareLines letters first end start other = rangeLine letters first end ∷ startLine first end start ∷ startLine first end other ∷ []
 
 -- the result: the sign, and how far the two remainders agree (request 104)
 abbrev pub orderOf : List ℕ → ℕ → ℕ → ℕ → ℕ → Comparison
 orderOf w first end start other = Order (sign w first end start other) (commonWithin w first end start other)
 
--- the comparison's promise
-pub record Compared (w : List ℕ) (first end start other : ℕ) (r : Comparison) : Type 0 where
-  pub answer : r ≡ orderOf w first end start other unless compareLines w first end start other then Refused
+-- the comparison's promise, by the lines at its door
+pub record Compared (door : List Line) (w : List ℕ) (first end start other : ℕ) (r : Comparison) : Type 0 where
+  pub answer : r ≡ orderOf w first end start other unless door ++ compareLines (length w) first end start other then Refused

@@ -1,5 +1,5 @@
 -- THEOREM card-answered: the answers for the records of a card are those of single calls, one after another (request 105). It holds of all calls that answer and
--- whose answers meet the promises.
+-- whose answers meet the promises behind a door that has no line of number 4.
 use mathlib.Core.Path.{_≡_, ap, sym, _∙_}
 use mathlib.Core.List.{List, [], _∷_, _++_, append-assoc, List·Memᴰ, List·Memᴰ·head, List·Memᴰ·tail}
 use Prim.Native.Nat.{ℕ, _+_, _≤_}
@@ -7,16 +7,18 @@ use native.Mathlib.Omega.{arith}
 use lib.ListN.{length, take, drop, length-append}
 use lib.Seq.{take-append-add, drop-append-add, drop-at, length-take-le}
 use Rattle.buffers.specs.Buffers.{written}
-use Rattle.checks.specs.Lines.{tried}
+use Rattle.checks.specs.Lines.{Door, tried}
 use Rattle.checks.specs.declared.Checked.the-variants.{Passed}
 use Rattle.checks.specs.declared.Counted.{Counted}
 use Rattle.batch.specs.declared.Batch.{Batch}
-use Rattle.batch.specs.Batch.{icflAnswer, icflResult, icflWork, recordsFrom, Progress, entriesUsed, cutRecord, cutRecords, uncut, batchOf, batchLines, BatchDone}
+use Rattle.icfl.specs.Icfl.{icflAnswer, icflResult, icflWork}
+use Rattle.icfl.proofs.IcflCases.{NoFour}
+use Rattle.batch.specs.Batch.{recordsFrom, Progress, entriesUsed, cutRecord, cutRecords, uncut, batchOf, batchLines, BatchDone}
 use Rattle.batch.specs.BatchStatements.{packedPairs}
 use Rattle.batch.proofs.FoldLaws.{left, added, batch-answers, Every, Fits, linesOf, fits-by, folded-pairs}
 use Rattle.batch.proofs.BatchLaws.{batch-left, no-fours}
 use Rattle.demands.specs.Calls.{Calls}
-use Rattle.demands.specs.Demands.{Singly, none, next, CardAnswered}
+use Rattle.demands.specs.Requests.{Singly, none, next, CardAnswered}
 use Rattle.demands.specs.Meets.{Meets, Total}
 
 -- a part of n entries behind the first u, and what follows it
@@ -43,37 +45,39 @@ every-member : (P : Counted → Type 0) (answers : List Counted) → Every P ans
 every-member P (x ∷ answers) h a (List·Memᴰ·head e) = rw e (h .0)
 every-member P (x ∷ answers) h a (List·Memᴰ·tail m) = every-member P answers (h .1) a m
 
-module _ (c : Calls) (m : Meets c) (t : Total c) where
-  single : (w work pairs : List ℕ) → c .PieceCut w work pairs (icflAnswer w work pairs) (icflWork w work pairs) (icflResult w work pairs)
+module _ (door : Door) (no-four : (w : List ℕ) → NoFour (door w)) (c : Calls) (m : Meets door c) (t : Total c) where
+  single : (w work pairs : List ℕ) → (let lines = door w in
+      c .PieceCut w work pairs (icflAnswer lines w work pairs) (icflWork lines w work pairs) (icflResult lines w work pairs))
   single w work pairs =
       let a = t .pieceCut w work pairs in
       let d = m .pieceCut w work pairs (a .0) (a .1) (a .2) (a .3) in
-      rw (d .filled .answer, d .worked, d .filled .result) at (a .3)
+      rw (d .answer, d .worked, d .result) at (a .3)
 
   singly : (p : Progress) (ws : List (List ℕ)) → Fits p
-      → Singly c ws (p .work) (left p) (added p ws) (cutRecords p ws .work) (drop (p .used) (cutRecords p ws .pairs))
+      → Singly c ws (p .work) (left p) (added door p ws) (cutRecords door p ws .work) (drop (p .used) (cutRecords door p ws .pairs))
   unfolding added cutRecords cutRecord
   singly p [] l = none
   singly p (w ∷ ws) l =
-      let q = cutRecord p w in
-      let result = icflResult w (p .work) (left p) in
-      let n = entriesUsed (icflAnswer w (p .work) (left p)) in
-      let fits : Fits q = fits-by (tried (linesOf p w)) p w l in
+      let q = cutRecord door p w in
+      let result = icflResult (door w) w (p .work) (left p) in
+      let n = entriesUsed (icflAnswer (door w) w (p .work) (left p)) in
+      let fits : Fits q = fits-by (tried (linesOf door p w)) p w l in
       let room : n ≤ length result = omega (arith, fits, length-append (take (p .used) (p .pairs)) result, length-take-le (p .used) (p .pairs) l) in
-      let later : Singly c ws (q .work) (drop n result) (added q ws) (cutRecords q ws .work) (drop (q .used) (cutRecords q ws .pairs)) =
+      let later : Singly c ws (q .work) (drop n result) (added door q ws) (cutRecords door q ws .work) (drop (q .used) (cutRecords door q ws .pairs)) =
       rw (drop-behind (p .used) n (p .pairs) result l) at (singly q ws fits)
       in
-      rw (parts-behind (p .used) n (p .pairs) result l (written (packedPairs ws (added q ws)) (left q)) (cutRecords q ws .pairs) room (folded-pairs q ws fits))
+      let rest = written (packedPairs ws (added door q ws)) (left q) in
+      rw (parts-behind (p .used) n (p .pairs) result l rest (cutRecords door q ws .pairs) room (folded-pairs door q ws fits))
       (next (single w (p .work) (left p)) later)
 
-  pub card-answered : (bytes es work pairs work′ pairs′ : List ℕ) (r : Batch) → BatchDone bytes es work pairs r work′ pairs′
+  pub card-answered : (bytes es work pairs work′ pairs′ : List ℕ) (r : Batch) → BatchDone door bytes es work pairs r work′ pairs′
       → tried (batchLines es (length bytes)) ≡ Passed → CardAnswered c bytes es work pairs r work′ pairs′
   card-answered bytes es work pairs work′ pairs′ r d p =
       let records = recordsFrom 0 es bytes in
       record {
-        answers = batchOf bytes es work pairs .answers;
+        answers = batchOf door bytes es work pairs .answers;
         places = ap (λ (b : Batch). b .places) (rw p at (d .answer));
-        singly = rw (rw p at (d .worked), rw p at (d .result), batch-answers bytes es work pairs) (singly (uncut work pairs) records (omega arith));
+        singly = rw (rw p at (d .worked), rw p at (d .result), batch-answers door bytes es work pairs) (singly (uncut work pairs) records (omega arith));
         left = batch-left d p;
-        enough = λ l. every-member (λ a. ¬ (a ≡ Counted.Refused 4)) (batchOf bytes es work pairs .answers) (no-fours bytes es work pairs p l);
+        enough = λ l. every-member (λ a. ¬ (a ≡ Counted.Refused 4)) (batchOf door bytes es work pairs .answers) (no-fours door no-four bytes es work pairs p l);
       }

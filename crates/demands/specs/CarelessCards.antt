@@ -1,4 +1,4 @@
--- THEOREMS about calls that are careless of cards (request 105): the demand that shuts each of them out. Each is the library but for the card.
+-- THEOREMS about calls that are careless of cards (request 105): the demand that shuts each of them out.
 use mathlib.Core.Path.{_≡_, refl, ap, sym, _∙_}
 use mathlib.Core.List.{List, [], _∷_}
 use Prim.Native.Nat.{ℕ}
@@ -6,42 +6,27 @@ use native.Mathlib.Omega.{arith}
 use lib.ListN.{getD, replicate}
 use Rattle.words.specs.Examples.{a}
 use Rattle.words.specs.Separated.{separatedIcflEnds}
-use Rattle.checks.specs.Lines.{tried, lastOf, falls, faultyRecordEnds}
+use Rattle.conditions.specs.Conditions.{lastOf, falls, faultyRecordEnds}
+use Rattle.checks.specs.Lines.{tried, recordLines}
 use Rattle.checks.specs.declared.Checked.the-variants.{Refused}
 use Rattle.checks.specs.declared.Counted.{Counted}
 use Rattle.checks.proofs.LineLaws.{not-both}
-use Rattle.batch.specs.declared.Batch.{Batch}
 use Rattle.batch.specs.declared.Place.{Place}
 use Rattle.batch.specs.Batch.{entriesUsed, recordsFrom, cutRecord, cutRecords, batchOf, place, placesOf, batchWith}
-use Rattle.demands.specs.Calls.{Calls, library}
-use Rattle.demands.specs.Demands.{Demand1, Singly, none, next, Demands}
-
-abbrev Card : Type 1
-Card = (bytes es work pairs : List ℕ) (r : Batch) (work′ pairs′ : List ℕ) → Type 0
-
--- the library with another call for cards
-abbrev cards : Card → Calls
-cards card = record {
-  Test = library .Test;
-  PieceCut = library .PieceCut;
-  ReasonedCut = library .ReasonedCut;
-  CardCut = card;
-  StrictCut = library .StrictCut;
-  StartTable = library .StartTable;
-  Repetitions = library .Repetitions;
-  Comparing = library .Comparing;
-  Reading = library .Reading;
-  Summing = library .Summing;
-}
+use Rattle.demands.specs.Calls.{Calls}
+use Rattle.demands.specs.Demand1.{recordDoor, Demand1}
+use Rattle.demands.specs.Requests.{Singly, none, next}
+use Rattle.demands.specs.Demands.{Demands}
+use Rattle.demands.specs.OneCall.{Card, cardCutter}
 
 -- right buffers, and f of the right answers, whatever the list of record ends is
 abbrev Answering : (List Counted → List Counted) → Card
 Answering f bytes es work pairs r work′ pairs′ =
-    (r ≡ batchWith 0 (f (batchOf bytes es work pairs .answers)))
-    × (work′ ≡ batchOf bytes es work pairs .work) × (pairs′ ≡ batchOf bytes es work pairs .pairs)
+    (r ≡ batchWith 0 (f (batchOf recordLines bytes es work pairs .answers)))
+    × (work′ ≡ batchOf recordLines bytes es work pairs .work) × (pairs′ ≡ batchOf recordLines bytes es work pairs .pairs)
 
 -- one that refuses no list: an empty one is cut as a card without records
-pub refuses-none : ¬ Demand1 (cards (Answering (λ answers. answers)))
+pub refuses-none : ¬ Demand1 recordDoor (cardCutter (Answering (λ answers. answers)))
 unfolding tried faultyRecordEnds recordsFrom cutRecords
 refuses-none d = not-both refl (sym (d .card [] [] [] [] _ _ _ (refl, refl, refl) .0 .first))
 
@@ -52,16 +37,16 @@ untilRefused (Counted.Count n ∷ answers) = Counted.Count n ∷ untilRefused an
 untilRefused (Counted.Refused number ∷ answers) = Counted.Refused number ∷ []
 
 abbrev stopped : Calls
-stopped = cards (Answering untilRefused)
+stopped = cardCutter (Answering untilRefused)
 
 -- the second record of two, an empty one and a, has one factor
 second : (answers : List Counted) (work′ pairs′ : List ℕ) → Singly stopped ([] ∷ (a ∷ []) ∷ []) (replicate 3 0) (0 ∷ 0 ∷ []) answers work′ pairs′
     → getD (placesOf answers) 1 (place (Counted.Count 0)) .answer ≡ Counted.Count 1
 unfolding tried separatedIcflEnds
 second answers work′ pairs′ (next d (next e none)) =
-    e .filled .answer ∙ rw (d .worked, d .filled .result, d .filled .answer) refl
+    e .answer ∙ rw (d .worked, d .result, d .answer) refl
 
-pub stops-at-refusal : ¬ Demands stopped
+pub stops-at-refusal : ¬ Demands recordDoor stopped
 unfolding tried faultyRecordEnds falls lastOf recordsFrom cutRecord cutRecords separatedIcflEnds untilRefused
 stops-at-refusal d =
     let h = d .card (a ∷ []) (0 ∷ 1 ∷ []) (replicate 3 0) (0 ∷ 0 ∷ []) _ _ _ (refl, refl, refl) refl in

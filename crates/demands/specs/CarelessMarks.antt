@@ -1,14 +1,14 @@
--- THEOREMS about calls that are careless of marks (request 103): the demand that shuts each of them out. Each is the library but for one call. And over-marks:
+-- THEOREMS about calls that are careless of marks (request 103): the demand that shuts each of them out. And over-marks:
 -- demand 3's first sentence would be false of whole pieces that hold marks.
 use mathlib.Core.Path.{_≡_, refl, ap, sym, _∙_}
 use mathlib.Core.List.{List, [], _∷_, _++_, List·Memᴰ·head, List·Memᴰ·tail}
-use Prim.Native.Nat.{ℕ}
+use Prim.Native.Nat.{ℕ, _*_}
 use native.Mathlib.Omega.{arith}
 use lib.ListN.{length, getD, replicate}
 use lib.IntN.{pos, negsuc}
 use Rattle.words.specs.Words.{isInverseLyndon, sign}
 use Rattle.words.specs.Factorizations.{icflEnds}
-use Rattle.words.specs.Statements.{WholePieces, Compatible}
+use Rattle.theory.specs.Statements.{WholePieces, Compatible}
 use Rattle.words.specs.Separated.{separatedIcflEnds, isMarked}
 use Rattle.words.specs.Examples.{a}
 use Rattle.checks.specs.Lines.{Line, tried, _unless_then_, recordLines, workLine, markLine}
@@ -17,13 +17,15 @@ use Rattle.checks.specs.declared.Counted.{Counted}
 use Rattle.checks.proofs.LineLaws.{not-both}
 use Rattle.extension.specs.declared.Extension.{Extension}
 use Rattle.extension.specs.Extension.{extensionOf}
-use Rattle.icfl.specs.Icfl.{icflAdmission}
 use Rattle.compare.specs.declared.suffixes.Comparison.{Comparison}
 use Rattle.compare.specs.Compare.{signOf}
-use Rattle.demands.specs.Calls.{Calls, library}
-use Rattle.demands.specs.Demands.{Demand1, Demand2}
+use Rattle.demands.specs.Calls.{Calls}
+use Rattle.demands.specs.Demand1.{recordDoor, Demand1}
+use Rattle.demands.specs.Demand2.{Demand2}
 use Rattle.demands.specs.Meets.{Meets}
-use Rattle.demands.specs.Careless.{cutter, CutsAt, countedAt, other-ends, Answering, aboveZero}
+use Rattle.demands.specs.OneCall.{Test, tester, cutter}
+use Rattle.demands.specs.Careless.{CutsAt, countedAt, other-ends, Answering}
+use Rattle.demands.specs.CarelessComparing.{aboveZero}
 
 abbrev pub m : ℕ
 m = 255
@@ -43,35 +45,24 @@ marks-as-one f x = other-ends f (m ∷ m ∷ a ∷ []) (omega arith) (omega arit
     (λ e. let z : _≡_ {A = ℕ} 2 1 = ap (λ (t : List ℕ). getD t 0 0) (sym x ∙ e) in omega arith)
 
 -- the test's refusal passed up: 9 for a record that holds a mark
-pub cut-refused-by-9 : ¬ Demand1 (cutter (Answering
-    (λ w work entries. Counted.Count (length (separatedIcflEnds w)) unless icflAdmission w work ++ markLine w ∷ [] then Counted.Refused)
+pub cut-refused-by-9 : ¬ Demand1 recordDoor (cutter (Answering
+    (λ w work entries. Counted.Count (length (separatedIcflEnds w)) unless recordLines w ++ workLine work (3 * length w) ∷ markLine w ∷ [] then Counted.Refused)
     (λ w pairs. pairs)))
 unfolding tried separatedIcflEnds isMarked
 cut-refused-by-9 d = not-both refl (d .pieceCut (m ∷ []) (replicate 3 0) (0 ∷ 0 ∷ []) _ _ (Counted.Refused 9) (refl, refl, refl) .0 .first)
 
 -- ---- tests, by the lines that they try
 
-abbrev tester : (List ℕ → ℕ → List Line) → Calls
-tester lines = record {
-  Test = λ w work r work′. (r ≡ extensionOf w unless lines w (length work) then Extension.Refused) × (work′ ≡ work);
-  PieceCut = library .PieceCut;
-  ReasonedCut = library .ReasonedCut;
-  CardCut = library .CardCut;
-  StrictCut = library .StrictCut;
-  StartTable = library .StartTable;
-  Repetitions = library .Repetitions;
-  Comparing = library .Comparing;
-  Reading = library .Reading;
-  Summing = library .Summing;
-}
+abbrev Trying : (List ℕ → ℕ → List Line) → Test
+Trying lines w work r work′ = (r ≡ extensionOf w unless lines w (length work) then Extension.Refused) × (work′ ≡ work)
 
 -- one that answers for a record with a mark
-pub test-without-9 : ¬ Demand1 (tester (λ w entries. recordLines w ++ workLine entries (length w) ∷ []))
+pub test-without-9 : ¬ Demand1 recordDoor (tester (Trying (λ w entries. recordLines w ++ workLine entries (length w) ∷ [])))
 unfolding tried extensionOf isInverseLyndon isMarked
 test-without-9 d = not-both refl (sym (d .test (m ∷ []) (0 ∷ []) (0 ∷ []) Extension.InverseLyndon (refl, refl) .0 .first))
 
 -- one that looks for marks before it looks at its work buffer: 9 where 3 is due
-pub nine-before-three : ¬ Demand1 (tester (λ w entries. recordLines w ++ markLine w ∷ workLine entries (length w) ∷ []))
+pub nine-before-three : ¬ Demand1 recordDoor (tester (Trying (λ w entries. recordLines w ++ markLine w ∷ workLine entries (length w) ∷ [])))
 unfolding tried isMarked
 nine-before-three d =
     let e : Refused 9 ≡ Refused 3 = d .test (m ∷ []) [] [] (Extension.Refused 9) (refl, refl) .0 .first in
@@ -80,7 +71,7 @@ nine-before-three d =
 
 -- ---- "The promise about two starting minutes covers stretches without marks": over the two marks of `ff ff 61` it fails
 
-pub over-marks : (calls : Calls) → Meets calls → (compare : ℕ → ℕ → ℕ → ℕ → Comparison)
+pub over-marks : (calls : Calls) → Meets recordLines calls → (compare : ℕ → ℕ → ℕ → ℕ → Comparison)
     → ((first end start other : ℕ) → calls .Comparing (m ∷ m ∷ a ∷ []) first end start other (compare first end start other))
     → ¬ Compatible (WholePieces (separatedIcflEnds (m ∷ m ∷ a ∷ []))) 3 (λ first end start other. signOf (compare first end start other))
 unfolding tried sign separatedIcflEnds

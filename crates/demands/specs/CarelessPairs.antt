@@ -1,25 +1,25 @@
--- THEOREMS about calls that are careless of pairs (request 108): the demand that shuts each of them out. Each is the library but for the piece cut, the reader
--- or the summary.
+-- THEOREMS about calls that are careless of pairs (request 108): the demand that shuts each of them out.
 use mathlib.Core.Path.{_≡_, refl, ap, sym, _∙_}
 use mathlib.Core.Bool.{not}
 use mathlib.Core.List.{List, [], _∷_, _++_}
-use Prim.Native.Nat.{ℕ}
+use Prim.Native.Nat.{ℕ, _*_}
 use native.Mathlib.Omega.{arith}
 use lib.ListN.{length, getD, replicate}
 use lib.Dec.{eqb}
 use Rattle.words.specs.Separated.{separatedIcflEnds, separatedCflInEnds}
 use Rattle.words.specs.Pairs.{endsInside, separatedPairs, endsOf}
 use Rattle.words.specs.Examples.{a, b}
-use Rattle.checks.specs.Lines.{Line, _when_, tried, _unless_then_, recordLines, resultLine, numberLine, faultyEnds, faultyPairs}
+use Rattle.conditions.specs.Conditions.{faultyEnds}
+use Rattle.pairs.specs.PairedList.{faultyPairs}
+use Rattle.checks.specs.Lines.{Line, _when_, tried, _unless_then_, recordLines, workLine, resultLine, numberLine}
 use Rattle.checks.specs.Answers.{numberOf}
 use Rattle.checks.specs.declared.Counted.{Counted}
 use Rattle.checks.proofs.LineLaws.{not-both}
-use Rattle.icfl.specs.Icfl.{icflAdmission}
-use Rattle.reading.specs.Factor.{factorLines}
 use Rattle.summary.specs.Summary.{summaryLines, summaryOf, emptySummary}
-use Rattle.demands.specs.Calls.{Calls, library}
-use Rattle.demands.specs.Demands.{Demand1, Demand2}
-use Rattle.demands.specs.Careless.{cutter, CutsAt, other-pairs, Answering}
+use Rattle.demands.specs.Demand1.{recordDoor, Demand1}
+use Rattle.demands.specs.Demand2.{Demand2}
+use Rattle.demands.specs.OneCall.{Reader, Summing, cutter, reader, summer}
+use Rattle.demands.specs.Careless.{CutsAt, other-pairs, Answering}
 use Rattle.demands.specs.CarelessMarks.{m}
 
 -- ---- piece cuts
@@ -42,55 +42,42 @@ two-at-mark f x = other-pairs f (m ∷ []) (omega arith) (omega arith) (rw x ref
     (λ e. let z : _≡_ {A = ℕ} 2 1 = ap (λ (t : List ℕ). getD t 1 0) (sym x ∙ e) in omega arith)
 
 -- "Refusal 4 counts both numbers": one that refuses only where there is no room for the ends
-pub room-for-ends : ¬ Demand1 (cutter (Answering
-    (λ w work entries. Counted.Count (length (separatedIcflEnds w)) unless icflAdmission w work ++ resultLine entries (length (separatedIcflEnds w)) ∷ [] then Counted.Refused)
+pub room-for-ends : ¬ Demand1 recordDoor (cutter (Answering
+    (λ w work entries. Counted.Count (length (separatedIcflEnds w))
+    unless recordLines w ++ workLine work (3 * length w) ∷ resultLine entries (length (separatedIcflEnds w)) ∷ [] then Counted.Refused)
     (λ w pairs. pairs)))
 unfolding tried separatedIcflEnds
 room-for-ends d = not-both refl (sym (d .pieceCut (a ∷ []) (replicate 3 0) (0 ∷ []) _ _ (Counted.Count 1) (refl, refl, refl) .0 .first))
 
 -- ---- readers and summaries, by the lines that they try; only the number is looked at
 
--- the library with another reader and another summary
-abbrev listReaders : (reading : List ℕ → List ℕ → ℕ → List Line) (summing : List ℕ → List ℕ → List Line) → Calls
-listReaders reading summing = record {
-  Test = library .Test;
-  PieceCut = library .PieceCut;
-  ReasonedCut = library .ReasonedCut;
-  CardCut = library .CardCut;
-  StrictCut = library .StrictCut;
-  StartTable = library .StartTable;
-  Repetitions = library .Repetitions;
-  Comparing = library .Comparing;
-  Reading = λ w ps k part number. number ≡ numberOf (tried (reading w ps k));
-  Summing = λ w ps r. r ≡ summaryOf (endsOf ps) unless summing w ps then emptySummary;
-}
+abbrev Reads : (List ℕ → List ℕ → ℕ → List Line) → Reader
+Reads lines w ps k part number = number ≡ numberOf (tried (recordLines w ++ lines w ps k))
 
-abbrev reader : (List ℕ → List ℕ → ℕ → List Line) → Calls
-reader reading = listReaders reading summaryLines
-
-abbrev summary : (List ℕ → List ℕ → List Line) → Calls
-summary summing = listReaders factorLines summing
+abbrev Sums : (List ℕ → List ℕ → List Line) → Summing
+Sums lines w ps r = r ≡ summaryOf (endsOf ps) unless recordLines w ++ lines w ps then emptySummary
 
 -- those that look at the ends alone
 abbrev endsLines : List ℕ → List ℕ → List Line
-endsLines w ps = recordLines w ++ (7 when faultyEnds (endsOf ps) (length w)) ∷ []
+endsLines w ps = (7 when faultyEnds (endsOf ps) (length w)) ∷ []
 
 -- "an odd number of entries"
-pub odd-list-read : ¬ Demand1 (reader (λ w ps k. endsLines w ps ++ numberLine k (length (endsOf ps)) ∷ []))
+pub odd-list-read : ¬ Demand1 recordDoor (reader (Reads (λ w ps k. endsLines w ps ++ numberLine k (length (endsOf ps)) ∷ [])))
 unfolding tried faultyEnds faultyPairs endsOf
 odd-list-read d = not-both refl (sym (d .reader (a ∷ []) (1 ∷ 1 ∷ 1 ∷ []) 0 [] 0 refl .first))
 
 -- "a count that is 0 or above its piece's length"
-pub large-count-summed : ¬ Demand1 (summary endsLines)
+pub large-count-summed : ¬ Demand1 recordDoor (summer (Sums endsLines))
 unfolding tried faultyEnds faultyPairs endsOf summaryOf
 large-count-summed d = not-both refl (sym (d .summary (a ∷ []) (1 ∷ 2 ∷ []) _ refl .first))
 
 -- one that takes no counts but ours, where the request asks no more than that they fit: the list 2, 1 of `aa`, which has two strict pieces
-pub strict-counts-only : ¬ Demand1 (summary (λ w ps. summaryLines w ps ++ (7 when not (eqb (getD ps 1 0) (endsInside 0 (getD ps 0 0) (separatedCflInEnds w)))) ∷ []))
+pub strict-counts-only : ¬ Demand1 recordDoor (summer (Sums
+    (λ w ps. summaryLines w ps ++ (7 when not (eqb (getD ps 1 0) (endsInside 0 (getD ps 0 0) (separatedCflInEnds w)))) ∷ [])))
 unfolding tried faultyPairs endsOf summaryOf endsInside separatedCflInEnds
 strict-counts-only d = not-both refl (d .summary (a ∷ a ∷ []) (2 ∷ 1 ∷ []) _ refl .first)
 
 -- 8 by entries: one that reads the second part of a list with one pair
-pub numbered-by-entries : ¬ Demand1 (reader (λ w ps k. summaryLines w ps ++ numberLine k (length ps) ∷ []))
+pub numbered-by-entries : ¬ Demand1 recordDoor (reader (Reads (λ w ps k. summaryLines w ps ++ numberLine k (length ps) ∷ [])))
 unfolding tried faultyPairs endsOf
 numbered-by-entries d = not-both refl (sym (d .reader (a ∷ []) (1 ∷ 1 ∷ []) 1 [] 0 refl .first))

@@ -1,5 +1,4 @@
--- THEOREMS about calls that are careless of repetitions (request 107): the demand that shuts each of them out. Each is the library but for the list of
--- repetitions.
+-- THEOREMS about calls that are careless of repetitions (request 107): the demand that shuts each of them out.
 use mathlib.Core.Path.{_≡_, refl, ap}
 use mathlib.Core.List.{List, [], _∷_, _++_, flatten}
 use Prim.Native.Nat.{ℕ, _-_, _*_}
@@ -12,38 +11,22 @@ use Rattle.checks.specs.Lines.{Line, tried, _unless_then_, recordLines, resultL
 use Rattle.checks.specs.Answers.{Filled}
 use Rattle.checks.specs.declared.Counted.{Counted}
 use Rattle.checks.proofs.LineLaws.{not-both}
-use Rattle.runs.specs.Runs.{entriesOf, runsLines}
-use Rattle.demands.specs.Calls.{Calls, library}
-use Rattle.demands.specs.Demands.{Demand1, Demands}
+use Rattle.inserting.specs.Entries.{entriesOfRuns}
+use Rattle.runs.specs.Runs.{runsLines}
+use Rattle.demands.specs.Demand1.{recordDoor, Demand1}
+use Rattle.demands.specs.Demands.{Demands}
+use Rattle.demands.specs.OneCall.{Listing, lister}
 use Rattle.demands.specs.RepetitionsHold.{count-only, entries-only}
-
-abbrev Listing : Type 1
-Listing = (w out : List ℕ) (r : Counted) (out′ : List ℕ) → Type 0
-
--- the library with another list of repetitions
-abbrev lister : Listing → Calls
-lister listing = record {
-  Test = library .Test;
-  PieceCut = library .PieceCut;
-  ReasonedCut = library .ReasonedCut;
-  CardCut = library .CardCut;
-  StrictCut = library .StrictCut;
-  StartTable = library .StartTable;
-  Repetitions = listing;
-  Comparing = library .Comparing;
-  Reading = library .Reading;
-  Summing = library .Summing;
-}
 
 -- ---- right repetitions
 
 -- one that writes before it has counted: with 4, as much of the answer as there is room for
 abbrev WritesFirst : Listing
 WritesFirst w out r out′ =
-    (r ≡ Counted.Count (length (separatedRuns w)) unless runsLines w (length out) then Counted.Refused)
-    × (out′ ≡ take (length out) (written (entriesOf (separatedRuns w)) out))
+    (r ≡ Counted.Count (length (separatedRuns w)) unless recordLines w ++ runsLines w (length out) then Counted.Refused)
+    × (out′ ≡ take (length out) (written (entriesOfRuns (separatedRuns w)) out))
 
-pub written-before-counted : ¬ Demand1 (lister WritesFirst)
+pub written-before-counted : ¬ Demand1 recordDoor (lister WritesFirst)
 unfolding tried separatedRuns flatten
 written-before-counted d =
     let kept = d .repetitions (a ∷ a ∷ []) (0 ∷ 0 ∷ []) _ (Counted.Refused 4) (refl, refl) .1 4 refl in
@@ -54,8 +37,8 @@ written-before-counted d =
 abbrev boundLines : List ℕ → ℕ → List Line
 boundLines w entries = recordLines w ++ resultLine entries (3 * (length w - 1)) ∷ []
 
-pub no-space-for-most : ¬ Demand1 (lister
-    (λ w out r out′. Filled (boundLines w (length out)) (length (separatedRuns w)) (entriesOf (separatedRuns w)) out r out′))
+pub no-space-for-most : ¬ Demand1 recordDoor (lister
+    (λ w out r out′. Filled (boundLines w (length out)) (length (separatedRuns w)) (entriesOfRuns (separatedRuns w)) out r out′))
 unfolding tried separatedRuns
 no-space-for-most d = not-both refl (d .repetitions (a ∷ b ∷ []) [] [] (Counted.Refused 4) (record { answer = refl; result = refl }) .0 .first)
 
@@ -65,10 +48,10 @@ abbrev listLines : (List ℕ → List Triple) → List ℕ → ℕ → List Line
 listLines f w entries = recordLines w ++ resultLine entries (3 * length (f w)) ∷ []
 
 abbrev Lists : (List ℕ → List Triple) → Listing
-Lists f w out r out′ = Filled (listLines f w (length out)) (length (f w)) (entriesOf (f w)) out r out′
+Lists f w out r out′ = Filled (listLines f w (length out)) (length (f w)) (entriesOfRuns (f w)) out r out′
 
 -- "The period is the smallest one": one that lists `aaaa` as two times `aa`, too
-pub period-doubled : (f : List ℕ → List Triple) → f (a ∷ a ∷ a ∷ a ∷ []) ≡ (0, 4, 1) ∷ (0, 4, 2) ∷ [] → ¬ Demands (lister (Lists f))
+pub period-doubled : (f : List ℕ → List Triple) → f (a ∷ a ∷ a ∷ a ∷ []) ≡ (0, 4, 1) ∷ (0, 4, 2) ∷ [] → ¬ Demands recordDoor (lister (Lists f))
 unfolding tried separatedRuns flatten
 period-doubled f x d =
     let w : List ℕ = a ∷ a ∷ a ∷ a ∷ [] in
@@ -77,7 +60,7 @@ period-doubled f x d =
     omega arith
 
 -- "by first place and then by period": one that goes by the period first
-pub by-period-first : (f : List ℕ → List Triple) → f (a ∷ a ∷ b ∷ a ∷ a ∷ b ∷ []) ≡ (0, 2, 1) ∷ (3, 5, 1) ∷ (0, 6, 3) ∷ [] → ¬ Demands (lister (Lists f))
+pub by-period-first : (f : List ℕ → List Triple) → f (a ∷ a ∷ b ∷ a ∷ a ∷ b ∷ []) ≡ (0, 2, 1) ∷ (3, 5, 1) ∷ (0, 6, 3) ∷ [] → ¬ Demands recordDoor (lister (Lists f))
 unfolding tried separatedRuns flatten
 by-period-first f x d =
     let w : List ℕ = a ∷ a ∷ b ∷ a ∷ a ∷ b ∷ [] in
@@ -87,7 +70,7 @@ by-period-first f x d =
     omega arith
 
 -- "Marks belong to none": one that takes them for letters
-pub marks-repeated : ¬ Demands (lister (Lists runs))
+pub marks-repeated : ¬ Demands recordDoor (lister (Lists runs))
 unfolding tried runs separatedRuns flatten
 marks-repeated d =
     let h = d .repetitions (255 ∷ 255 ∷ []) (replicate 3 0) _ (Counted.Count 1) (record { answer = refl; result = refl }) refl in

@@ -1,4 +1,4 @@
--- THEOREM demand-3: the customer's third demand holds of all calls whose answers meet the promises.
+-- THEOREM demand-3: the customer's third demand holds of all calls whose answers meet the promises behind a doorway that is sound.
 use mathlib.Core.Path.{_≡_, ap, sym, _∙_}
 use mathlib.Core.Logic.{_⊎_, inl, inr}
 use mathlib.Core.List.{List}
@@ -9,24 +9,26 @@ use lib.IntN.{ℤ, pos, negsuc}
 use Rattle.words.specs.Words.{sign, commonWithin}
 use Rattle.words.specs.Separated.{separatedIcflEnds, separatedCflInEnds}
 use Rattle.words.specs.Pairs.{endsOf}
-use Rattle.words.specs.SeparatedStatements.{UnmarkedPieces, SeparatedDemand3}
-use Rattle.words.specs.Statements.{WholePieces}
-use Rattle.words.specs.orders.SignLaws.{SignOf, before, equal, after, sign-is}
-use Rattle.words.specs.orders.CommonWithin.{common-within-is, common-within-same, common-within-sym, common-within-range}
-use Rattle.words.specs.places.Parts.{rises-below}
-use Rattle.words.specs.stretches.Factors.{separated-icfl-ends-rise}
-use Rattle.words.specs.stretches.RecordPairs.{pairs-ends}
-use Rattle.words.specs.stretches.SeparatedDemand3.{separated-demand-3}
-use Rattle.checks.proofs.LineLaws.{filled-front}
+use Rattle.theory.specs.SeparatedStatements.{UnmarkedPieces, SeparatedDemand3}
+use Rattle.theory.specs.Statements.{WholePieces}
+use Rattle.theory.specs.orders.SignLaws.{SignOf, before, equal, after, sign-is}
+use Rattle.theory.specs.orders.CommonWithin.{common-within-is, common-within-same, common-within-sym, common-within-range}
+use Rattle.theory.specs.places.Parts.{rises-below}
+use Rattle.theory.specs.stretches.Factors.{separated-icfl-ends-rise}
+use Rattle.theory.specs.stretches.RecordPairs.{pairs-ends}
+use Rattle.theory.specs.stretches.SeparatedDemand3.{separated-demand-3}
+use Rattle.checks.proofs.LineLaws.{both-pass, filled-front}
 use Rattle.icfl.proofs.IcflCases.{pairs-front}
 use Rattle.compare.specs.declared.suffixes.Comparison.{Comparison}
-use Rattle.compare.specs.Compare.{signOf, commonOf, orderOf}
+use Rattle.compare.specs.Compare.{signOf, commonOf, compareLines, orderOf}
 use Rattle.compare.proofs.ComparisonLaws.{Within, within-passes}
 use Rattle.demands.specs.Calls.{Calls}
-use Rattle.demands.specs.Demands.{Inside, Demand3, Runs}
-use Rattle.demands.specs.Meets.{Meets}
+use Rattle.demands.specs.Demand1.{Doorway}
+use Rattle.demands.specs.Demand3.{Inside, Demand3, Given}
+use Rattle.demands.specs.Meets.{Sound, Meets}
 
-module _ (c : Calls) (m : Meets c) (w es ss : List ℕ) (compare : ℕ → ℕ → ℕ → ℕ → Comparison) (r : Runs c w es ss compare) where
+module _ (d : Doorway) (sound : Sound d) (c : Calls) (m : Meets (d .door) c) (w es ss : List ℕ) (compare : ℕ → ℕ → ℕ → ℕ → Comparison)
+    (r : Given (d .most) c w es ss compare) where
   pieces-are : es ≡ separatedIcflEnds w
   pieces-are =
       let q = r .pieceCut in
@@ -43,14 +45,15 @@ module _ (c : Calls) (m : Meets c) (w es ss : List ℕ) (compare : ℕ → ℕ �
     ordered : compare first end start other ≡ orderOf w first end start other
     ordered =
         let within : Within w first end start other = record {
-          short = r .short;
           inside = h .range;
           start-from = h .start-from;
           start-below = h .start-below;
           other-from = h .other-from;
           other-below = h .other-below;
         } in
-        m .comparison w first end start other _ (r .comparison first end start other) .answer ∙ rw (within-passes w first end start other within)
+        m .comparison w first end start other _ (r .comparison first end start other) .answer
+        ∙ rw (both-pass (d .door w) (compareLines (length w) first end start other) (sound .lets-in w (r .nonempty) (r .short))
+        (within-passes w first end start other within))
 
     signed : signOf (compare first end start other) ≡ sign w first end start other
     signed = ap signOf ordered
@@ -77,14 +80,14 @@ module _ (c : Calls) (m : Meets c) (w es ss : List ℕ) (compare : ℕ → ℕ �
     other-below = h .start-below;
   }
 
-  module _ (first end start other : ℕ) (a : first ≤ start) (b : start < end) (p : first ≤ other) (d : other < end) (n : ¬ (start ≡ other)) where
+  module _ (first end start other : ℕ) (a : first ≤ start) (b : start < end) (p : first ≤ other) (q : other < end) (n : ¬ (start ≡ other)) where
     inside : WholePieces es first end → Inside (length w) first end start other
     inside g = record {
       range = rises-below (separated-icfl-ends-rise w) (rw pieces-are at (g .1));
       start-from = a;
       start-below = b;
       other-from = p;
-      other-below = d;
+      other-below = q;
     }
 
     sign-decided : WholePieces es first end → (signOf (compare first end start other) ≡ negsuc 0) ⊎ (signOf (compare first end start other) ≡ pos 1)
@@ -100,13 +103,13 @@ module _ (c : Calls) (m : Meets c) (w es ss : List ℕ) (compare : ℕ → ℕ �
     same-sign g =
         let h = inside (g .0) in
         signed first end start other h
-        ∙ (theory .compatible first end start other (rw pieces-are at g) a b p d n
+        ∙ (theory .compatible first end start other (rw pieces-are at g) a b p q n
         ∙ sym (signed 0 (length w) start other (widened first end start other h)))
 
   pub demand-3 : Demand3 w es ss compare
   demand-3 = record {
-    compatible = λ first end start other g a b p d n. same-sign first end start other a b p d n g;
-    decided = λ first end start other g a b p d n. sign-decided first end start other a b p d n g;
+    compatible = λ first end start other g a b p q n. same-sign first end start other a b p q n g;
+    decided = λ first end start other g a b p q n. sign-decided first end start other a b p q n g;
     shared = λ first end start other h.
         rw (counted first end start other h)
         (common-within-is w first end start other (h .range) (h .start-from) (h .start-below) (h .other-from) (h .other-below));

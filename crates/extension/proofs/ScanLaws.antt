@@ -7,12 +7,12 @@ use native.Mathlib.Omega.{arith}
 use lib.ListN.{length, drop, getD, set, length-set}
 use lib.Seq.{drop-set-lt}
 use Rattle.words.specs.Words.{InverseLyndon}
-use Rattle.words.specs.orders.Decisions.{true-decides, false-decides}
-use Rattle.words.specs.lyndon.WordTests.{inverse-lyndon-test}
-use Rattle.words.specs.icfl.Failing.{Failing, failing-unique, failing-not}
-use Rattle.words.specs.icfl.BorderLength.{prefix-length}
-use Rattle.words.specs.scan.Scanned.{Scanned, Stops, scanned-one, scanned-whole, scanned-failing}
-use Rattle.words.specs.scan.ScannedBorders.{Table, table-set, scanned-border, Walk, walk-on, walk-stops, walk-ends, ShortestBorder, shortest-border-length}
+use Rattle.theory.specs.orders.Decisions.{true-decides, false-decides}
+use Rattle.theory.specs.lyndon.WordTests.{inverse-lyndon-test}
+use Rattle.theory.specs.icfl.Failing.{Failing, failing-unique, failing-not}
+use Rattle.theory.specs.icfl.BorderLength.{prefix-length}
+use Rattle.theory.specs.scan.Scanned.{Scanned, Stops, scanned-one, scanned-whole, scanned-failing}
+use Rattle.theory.specs.scan.ScannedBorders.{Table, table-set, scanned-border, Walk, walk-on, walk-stops, walk-ends, ShortestBorder, shortest-border-length}
 use Rattle.scan.specs.declared.Scan.{Scan}
 use Rattle.scan.specs.State.{startState, stepState}
 use Rattle.scan.proofs.StateLaws.{stepped}

@@ -11,11 +11,11 @@ use types.Run.{OneOf}
 use denote.Enum.Declared.{tagOf}
 use Rattle.words.specs.Words.{InverseLyndon, isInverseLyndon}
 use Rattle.words.specs.Factorizations.{failingLength, prefixLength, borderLength}
-use Rattle.words.specs.orders.Decisions.{decides-true, decides-false}
-use Rattle.words.specs.lyndon.WordTests.{inverse-lyndon-test}
-use Rattle.words.specs.icfl.BorderLength.{step-is}
-use Rattle.words.specs.icfl.Failing.{failing-is}
-use Rattle.words.specs.icfl.IcflFactors.{prefix-positive}
+use Rattle.theory.specs.orders.Decisions.{decides-true, decides-false}
+use Rattle.theory.specs.lyndon.WordTests.{inverse-lyndon-test}
+use Rattle.theory.specs.icfl.BorderLength.{step-is}
+use Rattle.theory.specs.icfl.Failing.{failing-is}
+use Rattle.theory.specs.icfl.IcflFactors.{prefix-positive}
 use Rattle.checks.specs.Lines.{decided}
 use Rattle.checks.specs.declared.Checked.{Checked}
 use Rattle.checks.proofs.LineLaws.{said}

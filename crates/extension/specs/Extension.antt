@@ -6,10 +6,10 @@ use Prim.Native.Nat.{ℕ, _-_, _≤_, _<_}
 use lib.ListN.{length, drop, getD}
 use Rattle.words.specs.Words.{mostLetters, isInverseLyndon}
 use Rattle.words.specs.Factorizations.{failingLength, prefixLength, borderLength}
-use Rattle.words.specs.scan.Scanned.{Scanned}
-use Rattle.words.specs.scan.ScannedBorders.{Table}
+use Rattle.theory.specs.scan.Scanned.{Scanned}
+use Rattle.theory.specs.scan.ScannedBorders.{Table}
 use Rattle.buffers.specs.Buffers.{cleared}
-use Rattle.checks.specs.Lines.{Line, _unless_then_, recordLines, workLine, markLine}
+use Rattle.checks.specs.Lines.{Line, _unless_then_, workLine, markLine}
 use Rattle.checks.specs.declared.Checked.{Checked}
 use Rattle.scan.specs.State.{Rests}
 use Rattle.scan.specs.declared.Scan.{Scan}
@@ -30,14 +30,15 @@ testChecked InverseLyndon = Checked.Passed
 testChecked (Failing failing prefix border) = Checked.Passed
 testChecked (Refused number) = Checked.Refused number
 
--- the lines of the table that the test tries: 1, 2 and 3, and "9, a test of a record that holds a mark, after 3"
+-- the test's own lines, tried past those at its door: 3, and "9, a test of a record that holds a mark, after 3"
 abbrev pub extensionLines : List ℕ → ℕ → List Line
-extensionLines w entries = recordLines w ++ workLine entries (length w) ∷ markLine w ∷ []
+extensionLines w entries = workLine entries (length w) ∷ markLine w ∷ []
 
--- the call's promise: its answer; and "after an accepted .. test .. the entries counted in line 3 are zero and later ones unchanged", untouched by a refusal
-pub record ExtensionFound (w work : List ℕ) (r : Extension) (work′ : List ℕ) : Type 0 where
-  pub answer : r ≡ extensionOf w unless extensionLines w (length work) then Refused
-  pub buffer : work′ ≡ cleared (length w) work unless extensionLines w (length work) then (λ number. work)
+-- the call's promise, by the lines at its door: its answer; and "after an accepted .. test .. the entries counted in line 3 are zero and later ones
+-- unchanged", untouched by a refusal
+pub record ExtensionFound (door : List Line) (w work : List ℕ) (r : Extension) (work′ : List ℕ) : Type 0 where
+  pub answer : r ≡ extensionOf w unless door ++ extensionLines w (length work) then Refused
+  pub buffer : work′ ≡ cleared (length w) work unless door ++ extensionLines w (length work) then (λ number. work)
 
 -- ---- inner functions
 

@@ -2,8 +2,9 @@
 use checks::Checked;
 use scan::Scan;
 ghost use mathlib.Core.Path.{_≡_};
-ghost use Rattle.words.specs.scan.ScannedBorders.{ShortestBorder};
-ghost use Rattle.checks.specs.Lines.{tried};
+ghost use mathlib.Core.List.{[]};
+ghost use Rattle.theory.specs.scan.ScannedBorders.{ShortestBorder};
+ghost use Rattle.checks.specs.Lines.{tried, recordLines, Accepted};
 ghost use Rattle.extension.specs.Extension.{extensionLines, ExtensionFound, TestRoom, Scanning, Ready, Verdict};
 
 /// What the test answers: inverse Lyndon (paper 01: falling); failing, with L, |p| and |r|; or the number of the refusal.
@@ -74,21 +75,21 @@ pub fn extension_of(word: &[u8], work: &mut [u16]) -> Extension
     }
 }
 
-// Lines 1, 2, 3 and 9. The letters are looked at only past the others, since a record that line 2 refuses may be of any length.
+// Lines 3 and 9. The letters are looked at only past line 3.
 fn admit(word: &[u8], entries: usize) -> Checked
     ensures { λ r. ⌜ r ≡ tried (extensionLines (now (word .entry)) entries) ⌝ }
 {
-    let admitted = checks::check_record(word).then(checks::check_work(entries, word.len()));
-    let Checked::Passed = admitted else {
-        return admitted;
+    let worked = checks::check_work(entries, word.len());
+    let Checked::Passed = worked else {
+        return worked;
     };
     checks::check_marks(word)
 }
 
-/// The test. Refusals 1, 2, 3, 9; after a result the first entries of `work`, as many as the word has letters, are zero, and a refusal leaves
-/// it as it was.
-pub fn find_extension(word: &[u8], work: &mut [u16]) -> Extension
-    ensures { λ r. ⌜ ExtensionFound (now (word .entry)) (now (work .entry)) r (now (work .exit)) ⌝ }
+/// The test of an accepted record: the call's own lines, 3 and 9, and its work.
+pub fn test(word: &[u8], work: &mut [u16]) -> Extension
+    requires { ⌜ Accepted (now word) ⌝ }
+    ensures { λ r. ⌜ ExtensionFound [] (now (word .entry)) (now (work .entry)) r (now (work .exit)) ⌝ }
 {
     let admitted = admit(word, work.len());
     let Checked::Passed = admitted else {
@@ -97,4 +98,16 @@ pub fn find_extension(word: &[u8], work: &mut [u16]) -> Extension
     let found = extension_of(word, work);
     buffers::clear(work, word.len());
     found
+}
+
+/// The test. Refusals 1, 2, 3, 9; after a result the first entries of `work`, as many as the word has letters, are zero, and a refusal leaves
+/// it as it was.
+pub fn find_extension(word: &[u8], work: &mut [u16]) -> Extension
+    ensures { λ r. ⌜ ExtensionFound (recordLines (now (word .entry))) (now (word .entry)) (now (work .entry)) r (now (work .exit)) ⌝ }
+{
+    let recorded = checks::check_record(word);
+    let Checked::Passed = recorded else {
+        return Extension::Refused(recorded.number());
+    };
+    test(word, work)
 }

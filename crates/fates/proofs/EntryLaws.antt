@@ -1,19 +1,20 @@
 -- The entries of breaks: five stores are a break's entries (kept-stored, joined-stored); those of a cut, by whether it is a break (no-break-written,
--- break-written); all entries, one break after another (entries-next, length-entries).
+-- break-written); all entries, one break after another (length-entries).
 use mathlib.Core.Path.{_≡_, refl, ap, _∙_}
 use mathlib.Core.Bool.{Bool, true, false}
-use mathlib.Core.List.{List, [], _∷_, _++_, append-nil, flatten}
-use Prim.Native.Nat.{ℕ, suc, _+_, _*_, _≤_}
+use mathlib.Core.List.{List, [], _∷_, append-nil, flatten}
+use Prim.Native.Nat.{ℕ, _+_, _*_, _≤_}
 use native.Mathlib.Omega.{arith}
 use native.Mathlib.Numerals.{add-one, add-two, add-three, add-four}
-use lib.ListN.{length, set, length-append}
+use lib.ListN.{length, set}
 use lib.Seq.{sets}
+use Rattle.buffers.proofs.GroupLaws.{grouped-length}
 use Rattle.words.specs.declared.Fate.{Fate}
 use Rattle.words.specs.declared.Fate.the-variants.{Kept, Joined}
 use Rattle.words.specs.declared.Break.{Break}
-use Rattle.words.specs.stretches.CutSteps.{besideSeparator, unlessBeside}
-use Rattle.words.specs.stretches.Cuts.{breaksAmong}
-use Rattle.fates.specs.Entries.{fateEntries, breakEntries, entriesOf}
+use Rattle.theory.specs.stretches.CutSteps.{besideSeparator, unlessBeside}
+use Rattle.theory.specs.stretches.Cuts.{breaksAmong}
+use Rattle.fates.specs.Entries.{fateEntries, breakEntries, entriesOfBreaks}
 use Rattle.fates.specs.Fates.{cutEntries, WriteRoom, BreakWritten}
 
 -- ---- one break
@@ -41,27 +42,19 @@ five-entries b = rw (two-entries (b .fate))
 
 -- ---- all breaks
 
-pub entries-next : (b : Break) (bs : List Break) → entriesOf (b ∷ bs) ≡ breakEntries b ++ entriesOf bs
-unfolding flatten
-entries-next b bs = refl
-
-pub length-entries : (bs : List Break) → length (entriesOf bs) ≡ 5 * length bs
-unfolding flatten
-length-entries [] = refl
-length-entries (b ∷ bs) =
-    ap length (entries-next b bs)
-    ∙ (length-append (breakEntries b) (entriesOf bs) ∙ (rw (five-entries b, length-entries bs) (let z : 5 + 5 * length bs ≡ 5 * suc (length bs) = omega arith in z)))
+pub length-entries : (bs : List Break) → length (entriesOfBreaks bs) ≡ 5 * length bs
+length-entries = grouped-length breakEntries 5 five-entries
 
 -- ---- a cut
 
 module _ (w buffer : List ℕ) (b : Break) (at : ℕ) where
   no-entries : besideSeparator w (b .place) ≡ true → cutEntries w b ≡ []
   unfolding breaksAmong flatten
-  no-entries e = ap (λ (t : Bool). entriesOf (unlessBeside t b [])) e
+  no-entries e = ap (λ (t : Bool). entriesOfBreaks (unlessBeside t b [])) e
 
   its-entries : besideSeparator w (b .place) ≡ false → cutEntries w b ≡ breakEntries b
   unfolding breaksAmong flatten
-  its-entries e = ap (λ (t : Bool). entriesOf (unlessBeside t b [])) e ∙ append-nil (breakEntries b)
+  its-entries e = ap (λ (t : Bool). entriesOfBreaks (unlessBeside t b [])) e ∙ append-nil (breakEntries b)
 
   pub no-break-written : besideSeparator w (b .place) ≡ true → BreakWritten w b buffer at at buffer
   no-break-written e = record { next = rw (no-entries e) (omega arith); stored = rw (no-entries e) }

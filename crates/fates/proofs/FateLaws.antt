@@ -9,8 +9,8 @@ use lib.ListN.{getD}
 use Rattle.words.specs.declared.Fate.{Fate}
 use Rattle.words.specs.declared.Fate.the-variants.{Joined}
 use Rattle.words.specs.declared.Break.{Break}
-use Rattle.words.specs.breaks.BreakSteps.{Ended, kept, joined, keptEnds}
-use Rattle.words.specs.stretches.Cuts.{FirstOf}
+use Rattle.theory.specs.breaks.BreakSteps.{Ended, kept, joined, keptEnds}
+use Rattle.theory.specs.stretches.Cuts.{FirstOf}
 use Rattle.fates.specs.Fates.{Near, fateBy, breakBy}
 
 module _ (w : List ℕ) (i : ℕ) (b : Break) (bs : List Break) (f : FirstOf w i b bs) where

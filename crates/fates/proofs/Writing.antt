@@ -8,36 +8,22 @@ use Prim.Native.Nat.{ℕ, suc, _+_, _-_, _*_, _≤_, _<_}
 use native.Mathlib.Omega.{arith}
 use native.Mathlib.Decide.{decLt}
 use lib.ListN.{length, take, drop, getD, length-append, take-append-drop, drop-of-length-le}
-use lib.Seq.{sets, sets-eq, length-sets, slice, slice-cons, length-slice, take-at, drop-at, length-take-le}
+use lib.Seq.{length-sets, slice, slice-cons, length-slice, length-take-le}
 use Rattle.buffers.specs.Buffers.{written}
 use Rattle.buffers.proofs.BufferLaws.{kept-past}
+use Rattle.buffers.proofs.GroupLaws.{stored-front, stored-behind}
 use Rattle.words.specs.Separated.{separatedBreaks}
 use Rattle.words.specs.declared.Break.{Break}
-use Rattle.words.specs.breaks.BreakSteps.{keptEnds}
-use Rattle.words.specs.stretches.CutSteps.{besideSeparator, unlessBeside}
-use Rattle.words.specs.stretches.Cuts.{Cuts, record-ends, cuts-first, FirstOf, CutAt, breaksAmong, record-breaks}
+use Rattle.theory.specs.breaks.BreakSteps.{keptEnds}
+use Rattle.theory.specs.stretches.CutSteps.{besideSeparator, unlessBeside}
+use Rattle.theory.specs.stretches.Cuts.{Cuts, record-ends, cuts-first, FirstOf, CutAt, breaksAmong, record-breaks}
 use Rattle.breaks.specs.declared.Found.{Found}
 use Rattle.breaks.specs.Cutting.{notesOf, Noted}
 use Rattle.breaks.proofs.NoteLaws.{few-noted, noted-cut, note-at}
-use Rattle.fates.specs.Entries.{breakEntries, entriesOf}
+use Rattle.fates.specs.Entries.{breakEntries, entriesOfBreaks}
 use Rattle.fates.specs.Fates.{Near, breakBy, cutEntries, WriteRoom, BreakWritten, Writable}
-use Rattle.fates.proofs.EntryLaws.{entries-next, length-entries}
+use Rattle.fates.proofs.EntryLaws.{length-entries}
 use Rattle.fates.proofs.FateLaws.{near, break-is, kept-ends-on, joined-ends-on}
-
--- ---- some entries more
-
-module _ (buffer vs : List ℕ) (i j : ℕ) (s : i + length vs ≡ j) (l : j ≤ length buffer) where
-  front : length (take i buffer ++ vs) ≡ j
-  front = length-append (take i buffer) vs ∙ rw (length-take-le i buffer (omega arith)) s
-
-  stored : sets buffer i vs ≡ (take i buffer ++ vs) ++ drop j buffer
-  stored = rw s at (sets-eq vs buffer i (omega arith))
-
-  take-stored : take j (sets buffer i vs) ≡ take i buffer ++ vs
-  take-stored = rw stored (take-at (take i buffer ++ vs) (drop j buffer) j front)
-
-  drop-stored : drop j (sets buffer i vs) ≡ drop j buffer
-  drop-stored = rw stored (drop-at (take i buffer ++ vs) (drop j buffer) j front)
 
 -- the word's end is left in any case
 some-end : (w : List ℕ) (bs : List Break) → 0 < length (keptEnds w bs)
@@ -45,13 +31,13 @@ some-end w bs = rw length-append (omega arith)
 
 -- ---- one cut's entries, and those of the cuts after it
 
-among-next : (w : List ℕ) (b : Break) (bs : List Break) → entriesOf (breaksAmong w (b ∷ bs)) ≡ cutEntries w b ++ entriesOf (breaksAmong w bs)
+among-next : (w : List ℕ) (b : Break) (bs : List Break) → entriesOfBreaks (breaksAmong w (b ∷ bs)) ≡ cutEntries w b ++ entriesOfBreaks (breaksAmong w bs)
 unfolding breaksAmong flatten
 among-next w b bs = go (besideSeparator w (b .place))
   where
-    go : (t : Bool) → entriesOf (unlessBeside t b (breaksAmong w bs)) ≡ entriesOf (unlessBeside t b []) ++ entriesOf (breaksAmong w bs)
+    go : (t : Bool) → entriesOfBreaks (unlessBeside t b (breaksAmong w bs)) ≡ entriesOfBreaks (unlessBeside t b []) ++ entriesOfBreaks (breaksAmong w bs)
     go true = refl
-    go false = entries-next b (breaksAmong w bs) ∙ ap (λ (es : List ℕ). es ++ entriesOf (breaksAmong w bs)) (sym (append-nil (breakEntries b)))
+    go false = ap (λ (es : List ℕ). es ++ entriesOfBreaks (breaksAmong w bs)) (sym (append-nil (breakEntries b)))
 
 -- no entry is left of a list of length 0
 empty-of-length : (es : List ℕ) → length es ≡ 0 → es ≡ []
@@ -68,8 +54,8 @@ pub record Writing (w work buffer₀ buffer : List ℕ) (all next end begun at k
   pub inside : next < length w
   pub current : end ≡ getD work next 0
   pub ends : slice next (length w) work ≡ keptEnds w (drop k cuts)
-  pub left : at + length (entriesOf (breaksAmong w (drop k cuts))) ≡ all
-  pub done : take at buffer ++ entriesOf (breaksAmong w (drop k cuts)) ≡ entriesOf (separatedBreaks w)
+  pub left : at + length (entriesOfBreaks (breaksAmong w (drop k cuts))) ≡ all
+  pub done : take at buffer ++ entriesOfBreaks (breaksAmong w (drop k cuts)) ≡ entriesOfBreaks (separatedBreaks w)
   pub kept : drop at buffer ≡ drop at buffer₀
   pub long : length buffer ≡ length buffer₀
 
@@ -164,13 +150,13 @@ module _ (w work buffer₀ : List ℕ) (found : Found) (x : Writable w work foun
     made = rw (place-is, border-is) (break-is w begun b later first end-is)
 
     -- this cut's entries, then those of the cuts after it
-    entries-are : entriesOf (breaksAmong w (drop k bs)) ≡ cutEntries w b ++ entriesOf (breaksAmong w later)
-    entries-are = ap (λ (cs : List Break). entriesOf (breaksAmong w cs)) (cut .is) ∙ among-next w b later
+    entries-are : entriesOfBreaks (breaksAmong w (drop k bs)) ≡ cutEntries w b ++ entriesOfBreaks (breaksAmong w later)
+    entries-are = ap (λ (cs : List Break). entriesOfBreaks (breaksAmong w cs)) (cut .is) ∙ among-next w b later
 
-    entries-left : at + length (cutEntries w b) + length (entriesOf (breaksAmong w later)) ≡ all
+    entries-left : at + length (cutEntries w b) + length (entriesOfBreaks (breaksAmong w later)) ≡ all
     entries-left =
-        let size : length (entriesOf (breaksAmong w (drop k bs))) ≡ length (cutEntries w b) + length (entriesOf (breaksAmong w later))
-        = ap length entries-are ∙ length-append (cutEntries w b) (entriesOf (breaksAmong w later)) in
+        let size : length (entriesOfBreaks (breaksAmong w (drop k bs))) ≡ length (cutEntries w b) + length (entriesOfBreaks (breaksAmong w later))
+        = ap length entries-are ∙ length-append (cutEntries w b) (entriesOfBreaks (breaksAmong w later)) in
         omega (arith, g .left, size)
 
     pub room-at : WriteRoom w (breakBy w place begun border end) buffer at
@@ -199,10 +185,10 @@ module _ (w work buffer₀ : List ℕ) (found : Found) (x : Writable w work foun
       fits = omega (arith, size, entries-left, x .entries, g .long)
 
       taken : take at′ buffer′ ≡ take at buffer ++ cutEntries w b
-      taken = ap (take at′) (wrote .stored) ∙ take-stored buffer (cutEntries w b) at at′ size fits
+      taken = ap (take at′) (wrote .stored) ∙ stored-front buffer (cutEntries w b) at at′ size fits
 
       past : drop at′ buffer′ ≡ drop at′ buffer
-      past = ap (drop at′) (wrote .stored) ∙ drop-stored buffer (cutEntries w b) at at′ size fits
+      past = ap (drop at′) (wrote .stored) ∙ stored-behind buffer (cutEntries w b) at at′ size fits
 
       same-length : length buffer′ ≡ length buffer
       same-length = ap length (wrote .stored) ∙ length-sets buffer at (cutEntries w b)
@@ -211,9 +197,9 @@ module _ (w work buffer₀ : List ℕ) (found : Found) (x : Writable w work foun
           → Writing w work buffer₀ buffer′ all next′ (getD work next′ 0) place at′ (k + 1)
       written-on next′ i t =
           let z : suc k ≡ k + 1 = omega arith in
-          let done : take at′ buffer′ ++ entriesOf (breaksAmong w later) ≡ entriesOf (separatedBreaks w)
-          = ap (λ (us : List ℕ). us ++ entriesOf (breaksAmong w later)) taken
-          ∙ (append-assoc (take at buffer) (cutEntries w b) (entriesOf (breaksAmong w later))
+          let done : take at′ buffer′ ++ entriesOfBreaks (breaksAmong w later) ≡ entriesOfBreaks (separatedBreaks w)
+          = ap (λ (us : List ℕ). us ++ entriesOfBreaks (breaksAmong w later)) taken
+          ∙ (append-assoc (take at buffer) (cutEntries w b) (entriesOfBreaks (breaksAmong w later))
           ∙ (ap (λ (us : List ℕ). take at buffer ++ us) (sym entries-are) ∙ g .done)) in
           record {
             cuts = bs;
@@ -244,10 +230,10 @@ module _ (w work buffer₀ : List ℕ) (found : Found) (x : Writable w work foun
       write-on next′ end′ (inr z) = rw (z .1, z .2) (joined-on (z .0))
 
   pub write-ends : (buffer : List ℕ) (next end begun at k : ℕ) → Writing w work buffer₀ buffer all next end begun at k → all ≤ at
-      → buffer ≡ written (entriesOf (separatedBreaks w)) buffer₀
+      → buffer ≡ written (entriesOfBreaks (separatedBreaks w)) buffer₀
   write-ends buffer next end begun at k g l =
-      let none : entriesOf (breaksAmong w (drop k (g .cuts))) ≡ [] = empty-of-length _ (omega (arith, g .left)) in
-      let es : List ℕ = entriesOf (separatedBreaks w) in
+      let none : entriesOfBreaks (breaksAmong w (drop k (g .cuts))) ≡ [] = empty-of-length _ (omega (arith, g .left)) in
+      let es : List ℕ = entriesOfBreaks (separatedBreaks w) in
       let whole : take at buffer ≡ es = sym (append-nil (take at buffer)) ∙ (rw none at (g .done)) in
       let size : at ≡ length es = sym (length-take-le at buffer (omega (arith, g .left, x .entries, g .long))) ∙ ap length whole in
       sym (take-append-drop at buffer)

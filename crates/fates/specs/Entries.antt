@@ -1,6 +1,7 @@
 -- DEFINITIONS. A break in its buffer.
-use mathlib.Core.List.{List, [], _∷_, map, flatten}
+use mathlib.Core.List.{List, [], _∷_}
 use Prim.Native.Nat.{ℕ}
+use Rattle.buffers.specs.Buffers.{grouped}
 use Rattle.words.specs.declared.Fate.{Fate}
 use Rattle.words.specs.declared.Fate.the-variants.{Kept, Joined}
 use Rattle.words.specs.declared.Break.{Break}
@@ -13,5 +14,5 @@ fateEntries (Joined shortfall) = 256 ∷ shortfall ∷ []
 abbrev pub breakEntries : Break → List ℕ
 breakEntries b = b .place ∷ b .begun ∷ b .border ∷ fateEntries (b .fate)
 
-abbrev pub entriesOf : List Break → List ℕ
-entriesOf bs = flatten (map breakEntries bs)
+abbrev pub entriesOfBreaks : List Break → List ℕ
+entriesOfBreaks = grouped breakEntries

@@ -7,13 +7,13 @@ use lib.ListN.{length, getD}
 use lib.Seq.{slice, sets}
 use lib.Dec.{ltb}
 use Rattle.words.specs.Separated.{separatedIcflEnds, separatedBreaks}
-use Rattle.words.specs.stretches.Cuts.{breaksAmong}
+use Rattle.theory.specs.stretches.Cuts.{breaksAmong}
 use Rattle.words.specs.declared.Fate.{Fate}
 use Rattle.words.specs.declared.Fate.the-variants.{Kept, Joined}
 use Rattle.words.specs.declared.Break.{Break}
 use Rattle.breaks.specs.Cutting.{CutRoom, Noted}
 use Rattle.breaks.specs.declared.Found.{Found}
-use Rattle.fates.specs.Entries.{entriesOf}
+use Rattle.fates.specs.Entries.{entriesOfBreaks}
 
 -- both letters lie in the word, and an end past the place is at most |r| away
 pub record Near (w : List ℕ) (place begun border end : ℕ) : Type 0 where
@@ -34,7 +34,7 @@ breakBy w place begun border end = record { place = place; begun = begun; border
 
 -- the entries of a cut that is a break; none of any other
 abbrev pub cutEntries : List ℕ → Break → List ℕ
-cutEntries w b = entriesOf (breaksAmong w (b ∷ []))
+cutEntries w b = entriesOfBreaks (breaksAmong w (b ∷ []))
 
 -- there is room for its entries
 abbrev pub WriteRoom : List ℕ → Break → List ℕ → ℕ → Type 0

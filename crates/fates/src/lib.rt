@@ -8,7 +8,7 @@ ghost use lib.ListN.{length};
 ghost use lib.Seq.{sets};
 ghost use Rattle.buffers.specs.Buffers.{written};
 ghost use Rattle.words.specs.Separated.{separatedBreaks};
-ghost use Rattle.fates.specs.Entries.{breakEntries, entriesOf};
+ghost use Rattle.fates.specs.Entries.{breakEntries, entriesOfBreaks};
 ghost use Rattle.fates.specs.Fates.{Near, breakBy, WriteRoom, BreakWritten, Writable};
 
 // A cut, told as a break is, by the first end that does not lie before it: kept if that is its place, otherwise joined to the factor that ends there.
@@ -79,7 +79,7 @@ fn write_if_break(
 /// Writes all breaks of a record whose ends and cuts were found in `work`.
 pub fn write_breaks(word: &[u8], work: &[u16], found: Found, buffer: &mut [u16])
     requires { ⌜ Writable (now word) (now work) found (now buffer) ⌝ }
-    ensures { λ r. ⌜ now (buffer .exit) ≡ written (entriesOf (separatedBreaks (now (word .entry)))) (now (buffer .entry)) ⌝ }
+    ensures { λ r. ⌜ now (buffer .exit) ≡ written (entriesOfBreaks (separatedBreaks (now (word .entry)))) (now (buffer .entry)) ⌝ }
 {
     let n = word.len();
     let all = 5 * found.breaks;

@@ -1,2 +1,1 @@
 pub mod IcflCases
-pub mod BreaksCases

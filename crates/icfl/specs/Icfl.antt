@@ -7,25 +7,32 @@ use lib.ListN.{length}
 use lib.Dec.{eqb}
 use Rattle.words.specs.Separated.{separatedIcflEnds}
 use Rattle.words.specs.Pairs.{separatedPairs}
-use Rattle.buffers.specs.Buffers.{cleared}
-use Rattle.checks.specs.Lines.{Line, _unless_then_, recordLines, workLine, resultLine}
-use Rattle.checks.specs.Answers.{Filled}
+use Rattle.buffers.specs.Buffers.{cleared, written}
+use Rattle.checks.specs.Lines.{Line, _unless_then_, workLine, resultLine}
 use Rattle.checks.specs.declared.Counted.{Counted}
 
--- the lines of the table that the piece cut tries: 1, 2 and 3 before its work, then 4
-abbrev pub icflAdmission : List ℕ → ℕ → List Line
-icflAdmission w work = recordLines w ++ workLine work (3 * length w) ∷ []
-
--- "Refusal 4 counts both numbers" of an entry (request 108)
+-- the piece cut's own lines, tried past those at its door: 3 before its work, then 4, which "counts both numbers" of an entry (request 108)
 abbrev pub icflLines : List ℕ → ℕ → ℕ → List Line
-icflLines w work entries = icflAdmission w work ++ resultLine entries (2 * length (separatedIcflEnds w)) ∷ []
+icflLines w work entries = workLine work (3 * length w) ∷ resultLine entries (2 * length (separatedIcflEnds w)) ∷ []
 
 -- "Every refusal but 4 leaves the work buffer untouched too. .. after a cut refused by 4, the entries counted in line 3 are zero and later ones unchanged."
 abbrev pub workAfter : ℕ → List ℕ → ℕ → List ℕ
 workAfter n work number = elim (eqb number 4) [ true ↦ cleared n work | false ↦ work ]
 
--- the call's promise: its answer, "the number of pieces", with the result buffer, which has a pair for each of them; and the work buffer whole, cleared "after
--- an accepted cut"
-pub record IcflDone (w work buffer : List ℕ) (r : Counted) (work′ buffer′ : List ℕ) : Type 0 where
-  pub filled : Filled (icflLines w (length work) (length buffer)) (length (separatedIcflEnds w)) (separatedPairs w) buffer r buffer′
-  pub worked : work′ ≡ cleared (3 * length w) work unless icflLines w (length work) (length buffer) then workAfter (3 * length w) work
+-- ---- the call behind the lines of a door: its answer, "the number of pieces"; the result buffer, with a pair for each of them; and the work buffer, cleared
+-- "after an accepted cut"
+
+abbrev pub icflAnswer : (door : List Line) (w work pairs : List ℕ) → Counted
+icflAnswer door w work pairs = Counted.Count (length (separatedIcflEnds w)) unless door ++ icflLines w (length work) (length pairs) then Counted.Refused
+
+abbrev pub icflResult : (door : List Line) (w work pairs : List ℕ) → List ℕ
+icflResult door w work pairs = written (separatedPairs w) pairs unless door ++ icflLines w (length work) (length pairs) then (λ number. pairs)
+
+abbrev pub icflWork : (door : List Line) (w work pairs : List ℕ) → List ℕ
+icflWork door w work pairs = cleared (3 * length w) work unless door ++ icflLines w (length work) (length pairs) then workAfter (3 * length w) work
+
+-- the call's promise
+pub record IcflDone (door : List Line) (w work pairs : List ℕ) (r : Counted) (work′ pairs′ : List ℕ) : Type 0 where
+  pub answer : r ≡ icflAnswer door w work pairs
+  pub result : pairs′ ≡ icflResult door w work pairs
+  pub worked : work′ ≡ icflWork door w work pairs

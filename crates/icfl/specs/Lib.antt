@@ -1,2 +1,1 @@
 pub mod Icfl
-pub mod IcflBreaks

@@ -3,14 +3,14 @@ use super::printing::print_groups;
 use super::printing::print_pairs;
 use super::printing::print_refusal;
 use checks::MOST;
-use icfl::CountedBreaks;
+use icfl_breaks::CountedBreaks;
 use libc::STDOUT_FILENO;
 
 /// The pieces and the breaks, with so many entries lent for them as `pairs` and `list` have.
 pub fn print_reasons(name: &[u8], word: &[u8], pairs: &mut [u16], list: &mut [u16]) {
     let mut work = [0u16; 3 * MOST];
     io::write_all(STDOUT_FILENO, name);
-    match icfl::icfl_with_breaks(word, &mut work, pairs, list) {
+    match icfl_breaks::icfl_with_breaks(word, &mut work, pairs, list) {
         CountedBreaks::Counts { factors, breaks } => {
             io::write_all(STDOUT_FILENO, b"pieces=");
             print_pairs(pairs, factors);

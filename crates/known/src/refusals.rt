@@ -4,7 +4,7 @@ use checks::Counted;
 use checks::MOST;
 use compare::Comparison;
 use extension::Extension;
-use icfl::CountedBreaks;
+use icfl_breaks::CountedBreaks;
 use libc::STDOUT_FILENO;
 
 // The refusal's number, 0 for a result.
@@ -18,7 +18,7 @@ fn refusal(answer: Counted) -> u16 {
 // The same of the piece cut with breaks, lent no entry for these.
 fn refusal_beside(word: &[u8], work: &mut [u16], pairs: &mut [u16]) -> u16 {
     let mut none = [0u16; 0];
-    match icfl::icfl_with_breaks(word, work, pairs, &mut none) {
+    match icfl_breaks::icfl_with_breaks(word, work, pairs, &mut none) {
         CountedBreaks::Counts { .. } => 0,
         CountedBreaks::Refused(number) => number as u16,
     }

@@ -11,11 +11,11 @@ use lib.ListN.{length, getD, length-append, List·getD-eq-default}
 use Rattle.words.specs.Words.{mostLetters}
 use Rattle.words.specs.Separated.{separatedIcflEnds, separatedCflInEnds}
 use Rattle.words.specs.Pairs.{separatedPairs}
-use Rattle.words.specs.places.EndsRise.{Rises, done, more, rises-few, rises-inside, rises-some}
-use Rattle.words.specs.stretches.Factors.{separated-icfl-ends-rise, separated-cfl-in-ends-rise}
-use Rattle.words.specs.places.PairedLists.{paired-inside}
-use Rattle.words.specs.stretches.RecordPairs.{pairs-entries, pairs-paired}
-use Rattle.checks.proofs.RecordLaws.{Accepted}
+use Rattle.theory.specs.places.EndsRise.{Rises, done, more, rises-few, rises-inside, rises-some}
+use Rattle.theory.specs.stretches.Factors.{separated-icfl-ends-rise, separated-cfl-in-ends-rise}
+use Rattle.theory.specs.places.PairedLists.{paired-inside}
+use Rattle.theory.specs.stretches.RecordPairs.{pairs-entries, pairs-paired}
+use Rattle.checks.specs.Lines.{Accepted}
 use Rattle.summary.specs.Summary.{lengthsFrom, greatest, startOf, bandsOf, summaryOf}
 use Rattle.summary.proofs.SummaryLaws.{start-either, count-most, bands-length, bands-at}
 use Rattle.text.specs.Text.{ascii, decimal, eachAfter, listBy, commaList, pairList}

@@ -10,21 +10,21 @@ use borrow.Author.Tests.{le-ltb}
 use lib.ListN.{length, take}
 use Rattle.words.specs.Words.{mostLetters}
 use Rattle.words.specs.Separated.{separatedIcflEnds, separatedCflInEnds}
-use Rattle.words.specs.places.EndsRise.{rises-few}
-use Rattle.words.specs.stretches.Factors.{separated-icfl-ends-rise, separated-cfl-in-ends-rise}
+use Rattle.theory.specs.places.EndsRise.{rises-few}
+use Rattle.theory.specs.stretches.Factors.{separated-icfl-ends-rise, separated-cfl-in-ends-rise}
 use Rattle.words.specs.Pairs.{separatedPairs}
-use Rattle.words.specs.stretches.RecordPairs.{pairs-ends}
+use Rattle.theory.specs.stretches.RecordPairs.{pairs-ends}
 use Rattle.buffers.specs.Buffers.{cleared, written}
 use Rattle.checks.specs.declared.Checked.{Checked}
 use Rattle.checks.specs.declared.Checked.the-variants.{Passed}
 use Rattle.checks.specs.declared.Counted.{Counted}
-use Rattle.checks.specs.Lines.{Line, tried, recordLines}
+use Rattle.checks.specs.Lines.{Line, tried, recordLines, Accepted}
 use Rattle.checks.specs.Answers.{numberOf, Filled}
-use Rattle.checks.proofs.LineLaws.{IsRefused, not-both, refused, unmet, all-pass, filled-front, filled-number}
-use Rattle.checks.proofs.RecordLaws.{accepted}
-use Rattle.checks.proofs.PairsLaws.{own-pairs}
+use Rattle.checks.proofs.LineLaws.{IsRefused, not-both, refused, all-pass, filled-front, filled-number}
+use Rattle.checks.proofs.RecordLaws.{record-passes}
+use Rattle.pairs.proofs.PairsLaws.{own-pairs}
 use Rattle.icfl.specs.Icfl.{icflLines, IcflDone}
-use Rattle.icfl.proofs.IcflCases.{pairs-counted, pairs-front}
+use Rattle.icfl.proofs.IcflCases.{icfl-filled, pairs-counted, pairs-front}
 use Rattle.cfl.specs.CflIn.{cflInLines, CflInDone}
 use Rattle.summary.specs.Summary.{summaryLines, summaryOf, Summarized}
 use Rattle.summary.specs.declared.Summary.{Summary}
@@ -62,76 +62,76 @@ counted : {lines : List Line} {k : ℕ} {vs buffer buffer′ : List ℕ} {r : Co
 counted {r = Counted.Count m} f e = refl
 counted {r = Counted.Refused number} f e = absurd (not-both (filled-number f .0) e)
 
-module _ (w : List ℕ) (e : tried (recordLines w) ≡ Passed) where
+module _ (w : List ℕ) (a : Accepted w) where
   icfl-passes : (work entries : ℕ) → 3 * mostLetters ≤ work → 2 * mostLetters ≤ entries → tried (icflLines w work entries) ≡ Passed
   icfl-passes work entries h k =
-      let u = unmet (recordLines w) e in
-      let works = le-ltb work (3 * length w) (omega (arith, accepted w [] e .short)) in
-      let stores = le-ltb entries (2 * length (separatedIcflEnds w)) (omega (arith, rises-few (separated-icfl-ends-rise w), accepted w [] e .short)) in
-      all-pass (icflLines w work entries) (u .0, (u .1 .0, (works, (stores, search))))
+      let works = le-ltb work (3 * length w) (omega (arith, a .short)) in
+      let stores = le-ltb entries (2 * length (separatedIcflEnds w)) (omega (arith, rises-few (separated-icfl-ends-rise w), a .short)) in
+      all-pass (icflLines w work entries) (works, (stores, search))
 
   cfl-in-passes : (entries : ℕ) → mostLetters ≤ entries → tried (cflInLines w entries) ≡ Passed
   cfl-in-passes entries k =
-      let u = unmet (recordLines w) e in
-      let stores = le-ltb entries (length (separatedCflInEnds w)) (omega (arith, rises-few (separated-cfl-in-ends-rise w), accepted w [] e .short)) in
-      all-pass (cflInLines w entries) (u .0, (u .1 .0, (stores, search)))
+      all-pass (cflInLines w entries)
+      (le-ltb entries (length (separatedCflInEnds w)) (omega (arith, rises-few (separated-cfl-in-ends-rise w), a .short)), search)
 
   summary-passes : tried (summaryLines w (separatedPairs w)) ≡ Passed
-  summary-passes =
-      let u = unmet (recordLines w) e in
-      all-pass (summaryLines w (separatedPairs w)) (u .0, (u .1 .0, (own-pairs w (accepted w [] e .nonempty), search)))
+  summary-passes = all-pass (summaryLines w (separatedPairs w)) (own-pairs w (a .nonempty), search)
 
   listing-is : listingOf w ≡ sevenLines (length w) (separatedPairs w) (separatedCflInEnds w) (summaryOf (separatedIcflEnds w))
   unfolding listingOf
-  listing-is = rw e
+  listing-is = rw (record-passes w a)
 
   listing-most : length (listingOf w) ≤ 15 * mostLetters + 256
   unfolding sevenLines
-  listing-most = rw (listing-is, total-is (linesOf (length w) (separatedPairs w) (separatedCflInEnds w) (summaryOf (separatedIcflEnds w)))) (total-most w (accepted w [] e))
+  listing-most = rw (listing-is, total-is (linesOf (length w) (separatedPairs w) (separatedCflInEnds w) (summaryOf (separatedIcflEnds w)))) (total-most w a)
 
 -- the lines that a record's cuts and its summary give
-module _ (w pairs strict out : List ℕ) (c : CutLists w pairs strict out) (s : Summary) (x : Summarized w pairs s) where
+module _ (w pairs strict out : List ℕ) (c : CutLists w pairs strict out) (s : Summary) (x : Summarized [] w pairs s) where
   summary-is : s ≡ summaryOf (separatedIcflEnds w)
   summary-is = x .answer ∙ rw (c .pieces, summary-passes w (c .accepted), pairs-ends w)
 
   pub printable : Printable (length w) pairs strict s out
   unfolding summaryOf
   printable = record {
-    room = rw (summary-is, c .pieces, c .stricts) (omega (arith, c .writing, total-most w (accepted w [] (c .accepted))));
+    room = rw (summary-is, c .pieces, c .stricts) (omega (arith, c .writing, total-most w (c .accepted)));
     thirteen = rw summary-is (sym (bands-length (separatedIcflEnds w)));
   }
 
   pub lines-are : sevenLines (length w) pairs strict s ≡ listingOf w
   lines-are = rw (listing-is w (c .accepted), summary-is, c .pieces, c .stricts)
 
+-- the piece cut answers a number that is no greater than the length
+pub pieces-few : {w work pairs work′ pairs′ : List ℕ} {r : Counted} {pieces : ℕ} → Accepted w → IcflDone [] w work pairs r work′ pairs′ → pieces ≡ countOf r
+    → pieces ≤ mostLetters
+pieces-few {w} {r = Counted.Count n} a cut p = omega (arith, p, pairs-counted cut, rises-few (separated-icfl-ends-rise w), a .short)
+pieces-few {r = Counted.Refused number} a cut p = omega (arith, p)
+
 -- both cuts of a record that was accepted, and the entries that their answers tell of
-pub record BothCut (w work pairs strict out : List ℕ) (pieces stricts : ℕ) (work′ pairs′ strict′ : List ℕ) : Type 0 where
-  pub few : pieces ≤ mostLetters
-  pub pieces-inside : 2 * pieces ≤ length pairs′
+pub record BothCut (w work pairs strict out : List ℕ) (entries stricts : ℕ) (work′ pairs′ strict′ : List ℕ) : Type 0 where
+  pub pairs-inside : entries ≤ length pairs′
   pub stricts-inside : stricts ≤ length strict′
-  pub lists : CutLists w (take (2 * pieces) pairs′) (take stricts strict′) out
+  pub lists : CutLists w (take entries pairs′) (take stricts strict′) out
   pub listed : (n : ℕ) (out′ : List ℕ) → WroteAt 0 (listingOf w) out n out′ → Listed w work pairs strict out n work′ pairs′ strict′ out′
 
-pub both-cut : {w work pairs strict out work′ pairs′ strict′ : List ℕ} {r t : Counted} {pieces stricts : ℕ} → ListingRoom work pairs strict out
-    → tried (recordLines w) ≡ Passed → IcflDone w work pairs r work′ pairs′ → pieces ≡ countOf r → CflInDone w strict t strict′ → stricts ≡ countOf t
-    → BothCut w work pairs strict out pieces stricts work′ pairs′ strict′
-both-cut {w} {work} {pairs} {strict} {pieces = pieces} {stricts = stricts} room e cut p strict-cut s =
-    let passes = icfl-passes w e (length work) (length pairs) (room .working) (room .cutting) in
-    let strict-passes = cfl-in-passes w e (length strict) (room .strictCutting) in
-    let given : IcflDone w work pairs (Counted.Count pieces) _ _ = rw (counted (cut .filled) passes, ← p) at cut in
-    let strict-given : CflInDone w strict (Counted.Count stricts) _ = rw (counted strict-cut strict-passes, ← s) at strict-cut in
+pub both-cut : {w work pairs strict out work′ pairs′ strict′ : List ℕ} {r t : Counted} {pieces entries stricts : ℕ} → ListingRoom work pairs strict out
+    → Accepted w → IcflDone [] w work pairs r work′ pairs′ → pieces ≡ countOf r → entries ≡ 2 * pieces → CflInDone [] w strict t strict′ → stricts ≡ countOf t
+    → BothCut w work pairs strict out entries stricts work′ pairs′ strict′
+both-cut {w} {work} {pairs} {strict} {pieces = pieces} {stricts = stricts} room a cut p n strict-cut s =
+    let passes = icfl-passes w a (length work) (length pairs) (room .working) (room .cutting) in
+    let strict-passes = cfl-in-passes w a (length strict) (room .strictCutting) in
+    let given : IcflDone [] w work pairs (Counted.Count pieces) _ _ = rw (counted (icfl-filled cut) passes, ← p) at cut in
+    let strict-given : CflInDone [] w strict (Counted.Count stricts) _ = rw (counted strict-cut strict-passes, ← s) at strict-cut in
     let pieces-front = pairs-front given in
     let stricts-front = filled-front strict-given in
-    record {
-      few = omega (arith, pairs-counted given, rises-few (separated-icfl-ends-rise w), accepted w [] e .short);
-      pieces-inside = pieces-front .1;
+    rw n (record {
+      pairs-inside = pieces-front .1;
       stricts-inside = stricts-front .1;
-      lists = record { accepted = e; pieces = pieces-front .0; stricts = stricts-front .0; writing = room .writing };
+      lists = record { accepted = a; pieces = pieces-front .0; stricts = stricts-front .0; writing = room .writing };
       listed = λ n out′ x. record {
         size = x .place ∙ zero-add _;
-        text = wrote-front x (omega (arith, room .writing, listing-most w e));
-        worked = rw e (rw passes at (cut .worked));
-        pieces = rw e (rw passes at (cut .filled .result));
-        stricts = rw e (rw strict-passes at (strict-cut .result));
+        text = wrote-front x (omega (arith, room .writing, listing-most w a));
+        worked = rw (record-passes w a) (rw passes at (cut .worked));
+        pieces = rw (record-passes w a) (rw passes at (cut .result));
+        stricts = rw (record-passes w a) (rw strict-passes at (strict-cut .result));
       };
-    }
+    })

@@ -6,8 +6,7 @@ use lib.ListN.{length}
 use Rattle.words.specs.Words.{mostLetters}
 use Rattle.words.specs.Separated.{separatedCflInEnds}
 use Rattle.words.specs.Pairs.{separatedPairs}
-use Rattle.checks.specs.Lines.{tried, recordLines}
-use Rattle.checks.specs.declared.Checked.the-variants.{Passed}
+use Rattle.checks.specs.Lines.{Accepted}
 use Rattle.checks.specs.declared.Counted.{Counted}
 use Rattle.summary.specs.declared.Summary.{Summary}
 use Rattle.listing.specs.Listing.{linesOf}
@@ -24,7 +23,7 @@ pub record Printable (n : ℕ) (pairs strict : List ℕ) (summary : Summary) (ou
 
 -- what both cuts of an accepted record write, and room for its listing
 pub record CutLists (w pairs strict out : List ℕ) : Type 0 where
-  pub accepted : tried (recordLines w) ≡ Passed
+  pub accepted : Accepted w
   pub pieces : pairs ≡ separatedPairs w
   pub stricts : strict ≡ separatedCflInEnds w
   pub writing : 15 * mostLetters + 256 ≤ length out

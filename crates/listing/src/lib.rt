@@ -23,7 +23,7 @@ fn write_result(word: &[u8], pairs: &[u16], strict: &[u16], out: &mut [u8]) -> u
     requires { ⌜ CutLists (now word) (now pairs) (now strict) (now out) ⌝ }
     ensures { λ r. ⌜ WroteAt 0 (listingOf (now (word .entry))) (now (out .entry)) r (now (out .exit)) ⌝ }
 {
-    let summary = summary::summarize(word, pairs);
+    let summary = summary::summarize_pairs(word, pairs);
     lines::write_lines(word.len() as u16, pairs, strict, summary, out)
 }
 
@@ -49,13 +49,18 @@ fn list_word(
     ensures { λ r. ⌜ Listed (now (word .entry)) (now (work .entry)) (now (pairs .entry)) (now (strict .entry)) (now (out .entry)) r
         (now (work .exit)) (now (pairs .exit)) (now (strict .exit)) (now (out .exit)) ⌝ }
 {
-    let admitted = checks::check_record(word);
-    let Checked::Passed = admitted else {
-        return lines::write_refusal(admitted.number(), out);
+    let recorded = checks::check_record(word);
+    let Checked::Passed = recorded else {
+        return lines::write_refusal(recorded.number(), out);
     };
-    let pieces = count_of(icfl::icfl(word, work, pairs));
-    let stricts = count_of(cfl::cfl_in(word, strict));
-    write_result(word, &pairs[..2 * pieces], &strict[..stricts], out)
+    let pieces = count_of(icfl::cut(word, work, pairs));
+    let stricts = count_of(cfl::cut(word, strict));
+    write_result(
+        word,
+        &pairs[..pairs::entries(pieces)],
+        &strict[..stricts],
+        out,
+    )
 }
 
 /// Writes the listing of `word` to the front of `out` and answers its length: seven lines, or the one line of refusal 1 or 2. The buffers have room for

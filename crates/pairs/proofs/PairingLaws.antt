@@ -1,26 +1,31 @@
 -- The loop that writes the pairs, over plain lists. What is still to come are the pairs of the ends that are left (Pairing); a turn takes one end from them.
 use mathlib.Core.Path.{_≡_, refl, ap, sym, _∙_}
 use mathlib.Core.List.{List, [], _∷_, _++_, append-assoc, append-nil}
-use Prim.Native.Nat.{ℕ, suc, _+_, _*_, _≤_, _<_}
+use Prim.Native.Nat.{ℕ, _+_, _*_, _≤_, _<_}
 use native.Mathlib.Numerals.{add-one}
 use native.Mathlib.Omega.{arith}
-use lib.ListN.{length, take, drop, getD, set, length-set, drop-of-length-le, take-append-drop}
-use lib.Seq.{drop-cons, take-suc-set, drop-set-lt}
+use lib.ListN.{length, take, drop, getD, set, drop-of-length-le, take-append-drop}
+use lib.Seq.{sets, length-sets, drop-cons}
 use Rattle.buffers.specs.Buffers.{written}
 use Rattle.buffers.proofs.BufferLaws.{kept-past}
+use Rattle.buffers.proofs.GroupLaws.{stored-front, stored-behind}
 use Rattle.buffers.proofs.PartLaws.{part, part-is}
 use Rattle.words.specs.Separated.{separatedIcflEnds, separatedCflInEnds}
 use Rattle.words.specs.Pairs.{endsInside, pairsFrom, separatedPairs}
-use Rattle.words.specs.Statements.{Adjacent, here, there, Part}
-use Rattle.words.specs.places.EndsRise.{rises-inside, rises-few, rises-some}
-use Rattle.words.specs.places.Parts.{rises-adjacent}
-use Rattle.words.specs.stretches.Factors.{separated-icfl-ends-rise, separated-cfl-in-ends-rise}
-use Rattle.words.specs.stretches.StrictInside.{inside-few}
-use Rattle.words.specs.stretches.RecordPairs.{pairs-entries, count-alone}
+use Rattle.theory.specs.Statements.{Adjacent, here, there, Part}
+use Rattle.theory.specs.places.EndsRise.{rises-inside, rises-few, rises-some}
+use Rattle.theory.specs.places.Parts.{rises-adjacent}
+use Rattle.theory.specs.stretches.Factors.{separated-icfl-ends-rise, separated-cfl-in-ends-rise}
+use Rattle.theory.specs.stretches.StrictInside.{inside-few}
+use Rattle.theory.specs.stretches.RecordPairs.{pairs-entries, count-alone}
 
 -- a letter alone has one anti-Lyndon factor
 pub one-letter : (w : List ℕ) → length w ≡ 1 → 1 ≡ length (separatedCflInEnds w)
 one-letter w e = let rise = separated-cfl-in-ends-rise w in omega (arith, rises-few rise, rises-some rise (omega arith))
+
+-- a pair stored
+two-stored : (buffer : List ℕ) (at end count : ℕ) → set (set buffer at end) (at + 1) count ≡ sets buffer at (end ∷ count ∷ [])
+two-stored buffer at end count = rw (add-one at)
 
 -- the pairs of i pieces are written; the next piece begins at from
 pub record Pairing (w es buffer₀ buffer : List ℕ) (from i : ℕ) : Type 0 where
@@ -67,23 +72,17 @@ module _ {w es buffer₀ buffer : List ℕ} {from i : ℕ} (g : Pairing w es buf
       pub pairing-on : 2 * i + 1 < length buffer → Pairing w es buffer₀ (set (set buffer (2 * i) end) (2 * i + 1) count) end (i + 1)
       unfolding pairsFrom
       pairing-on room =
-          let first : List ℕ = set buffer (2 * i) end in
-          let size : length first ≡ length buffer = length-set buffer (2 * i) end in
-          let z : 2 * (i + 1) ≡ suc (suc (2 * i)) = omega arith in
-          let one : take (suc (2 * i)) first ≡ take (2 * i) buffer ++ end ∷ [] = take-suc-set buffer (2 * i) end (omega arith) in
-          let two : take (suc (suc (2 * i))) (set first (suc (2 * i)) count) ≡ take (suc (2 * i)) first ++ count ∷ []
-          = take-suc-set first (suc (2 * i)) count (omega (arith, size)) in
-          record {
+          let pair : List ℕ = end ∷ count ∷ [] in
+          let z : 2 * i + 2 ≡ 2 * (i + 1) = omega arith in
+          let inside : 2 * (i + 1) ≤ length buffer = omega arith in
+          rw (two-stored buffer (2 * i) end count) (record {
             right = g .right;
             inside = omega arith;
             parts = λ x. g .parts (rw next (there x));
-            content = rw (z, add-one (2 * i), two, one, append-assoc, append-assoc, counted) (rw next at (g .content));
-            later =
-                drop-set-lt (2 * (i + 1)) first (2 * i + 1) count (omega arith)
-                ∙ (drop-set-lt (2 * (i + 1)) buffer (2 * i) end (omega arith)
-                ∙ kept-past (2 * i) (2 * (i + 1)) buffer buffer₀ (omega arith) (g .later));
-            long = length-set first (2 * i + 1) count ∙ (size ∙ g .long);
-          }
+            content = rw (stored-front buffer pair (2 * i) (2 * (i + 1)) z inside, append-assoc, counted) (rw next at (g .content));
+            later = stored-behind buffer pair (2 * i) (2 * (i + 1)) z inside ∙ kept-past (2 * i) (2 * (i + 1)) buffer buffer₀ (omega arith) (g .later);
+            long = length-sets buffer (2 * i) pair ∙ g .long;
+          })
 
   pub pairing-ends : length es ≤ i → buffer ≡ written (separatedPairs w) buffer₀
   unfolding pairsFrom

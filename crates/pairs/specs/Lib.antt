@@ -1,1 +1,2 @@
+pub mod PairedList
 pub mod Pairing

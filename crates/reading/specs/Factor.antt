@@ -5,19 +5,15 @@ use Prim.Native.Nat.{ℕ}
 use lib.ListN.{length, getD}
 use lib.Seq.{slice}
 use Rattle.words.specs.Pairs.{endsOf}
-use Rattle.checks.specs.Lines.{Line, tried, _unless_then_, numberLine}
+use Rattle.pairs.specs.PairedList.{factorFrom}
+use Rattle.checks.specs.Lines.{Line, tried, _unless_then_, pairsLine, numberLine}
 use Rattle.checks.specs.Answers.{numberOf}
-use Rattle.summary.specs.Summary.{summaryLines}
 
--- 1, 2, 7 and 8, of a paired list (request 108)
+-- the reader's own lines, tried past those at its door: 7 and 8, of a paired list (request 108)
 abbrev pub factorLines : List ℕ → List ℕ → ℕ → List Line
-factorLines w ps k = summaryLines w ps ++ numberLine k (length (endsOf ps)) ∷ []
+factorLines w ps k = pairsLine ps (length w) ∷ numberLine k (length (endsOf ps)) ∷ []
 
--- where part k begins: at the end before it, "the first from place 0"
-abbrev pub factorFrom : List ℕ → ℕ → ℕ
-factorFrom es k = getD (0 ∷ es) k 0
-
--- the reader's promise: the refusal's number, 0 for none, and the part, "and the part with a refusal is empty"
-pub record FactorAt (w ps : List ℕ) (k : ℕ) (part : List ℕ) (number : ℕ) : Type 0 where
-  pub number-is : number ≡ numberOf (tried (factorLines w ps k))
-  pub part-is : part ≡ slice (factorFrom (endsOf ps) k) (getD (endsOf ps) k 0) w unless factorLines w ps k then (λ n. [])
+-- the reader's promise, by the lines at its door: the refusal's number, 0 for none, and the part, "and the part with a refusal is empty"
+pub record FactorAt (door : List Line) (w ps : List ℕ) (k : ℕ) (part : List ℕ) (number : ℕ) : Type 0 where
+  pub number-is : number ≡ numberOf (tried (door ++ factorLines w ps k))
+  pub part-is : part ≡ slice (factorFrom (endsOf ps) k) (getD (endsOf ps) k 0) w unless door ++ factorLines w ps k then (λ n. [])

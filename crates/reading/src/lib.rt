@@ -1,51 +1,42 @@
 //! The reader: a part of a record by its number in a paired list. The list may be any that line 7 of the refusals accepts; it need not
 //! be a factorization.
 use checks::Checked;
-use summary::admit_pairs;
 ghost use mathlib.Core.Path.{_≡_};
-ghost use Prim.Native.Nat.{_<_};
-ghost use lib.ListN.{length, getD};
-ghost use Rattle.words.specs.Pairs.{endsOf};
-ghost use Rattle.checks.specs.Lines.{tried};
-ghost use Rattle.reading.specs.Factor.{factorLines, factorFrom, FactorAt};
+ghost use mathlib.Core.List.{[]};
+ghost use Rattle.checks.specs.Lines.{tried, recordLines, Accepted};
+ghost use Rattle.reading.specs.Factor.{factorLines, FactorAt};
 
-/// The record, the paired list, the part's number.
+/// Lines 7 and 8: the paired list, the part's number.
 pub fn admit_factor(word: &[u8], pairs: &[u16], number: usize) -> Checked
     ensures { λ r. ⌜ r ≡ tried (factorLines (now (word .entry)) (now (pairs .entry)) number) ⌝ }
 {
-    admit_pairs(word, pairs).then(checks::check_number(number, pairs.len() / 2))
+    checks::check_pairs(pairs, word.len()).then(checks::check_number(number, pairs::count(pairs)))
 }
 
-/// Where a part begins: the end before it, and 0 for the first.
-pub fn factor_from(pairs: &[u16], number: usize) -> u16
-    requires { ⌜ number < length (endsOf (now pairs)) ⌝ }
-    ensures { λ r. ⌜ r ≡ factorFrom (endsOf (now (pairs .entry))) number ⌝ }
-{
-    if number == 0 {
-        return 0;
-    }
-    pairs[2 * number - 2]
-}
-
-/// Where a part ends.
-pub fn factor_end(pairs: &[u16], number: usize) -> u16
-    requires { ⌜ number < length (endsOf (now pairs)) ⌝ }
-    ensures { λ r. ⌜ r ≡ getD (endsOf (now (pairs .entry))) number 0 ⌝ }
-{
-    pairs[2 * number]
-}
-
-/// Part `number`, counted from 0, of the record: the letters from the end before it to its own end in `pairs`, the first from place 0.
-/// The refusal's number, 1, 2, 7 or 8, goes to `refusal`, 0 for a result; the part beside a refusal is empty.
-pub fn factor_at<'a>(word: &'a [u8], pairs: &[u16], number: usize, refusal: &mut u8) -> &'a [u8]
-    ensures { λ r. ⌜ FactorAt (now (word .entry)) (now (pairs .entry)) number (now r) (now (refusal .exit)) ⌝ }
+/// Part `number` of an accepted record: the call's own lines, 7 and 8, and its work.
+pub fn part_at<'a>(word: &'a [u8], pairs: &[u16], number: usize, refusal: &mut u8) -> &'a [u8]
+    requires { ⌜ Accepted (now word) ⌝ }
+    ensures { λ r. ⌜ FactorAt [] (now (word .entry)) (now (pairs .entry)) number (now r) (now (refusal .exit)) ⌝ }
 {
     let admitted = admit_factor(word, pairs, number);
     *refusal = admitted.number();
     let Checked::Passed = admitted else {
         return &word[0..0];
     };
-    let from = factor_from(pairs, number) as usize;
-    let end = factor_end(pairs, number) as usize;
+    let from = pairs::factor_from(pairs, number) as usize;
+    let end = pairs::factor_end(pairs, number) as usize;
     &word[from..end]
+}
+
+/// Part `number`, counted from 0, of the record: the letters from the end before it to its own end in `pairs`, the first from place 0.
+/// The refusal's number, 1, 2, 7 or 8, goes to `refusal`, 0 for a result; the part beside a refusal is empty.
+pub fn factor_at<'a>(word: &'a [u8], pairs: &[u16], number: usize, refusal: &mut u8) -> &'a [u8]
+    ensures { λ r. ⌜ FactorAt (recordLines (now (word .entry))) (now (word .entry)) (now (pairs .entry)) number (now r) (now (refusal .exit)) ⌝ }
+{
+    let recorded = checks::check_record(word);
+    let Checked::Passed = recorded else {
+        *refusal = recorded.number();
+        return &word[0..0];
+    };
+    part_at(word, pairs, number, refusal)
 }

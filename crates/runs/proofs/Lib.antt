@@ -1,7 +1,1 @@
-pub mod InsertLaws
-pub mod Moving
-pub mod LongestLaws
-pub mod PlaceLaws
-pub mod VisitLaws
-pub mod WalkLaws
 pub mod RoomLaws

@@ -7,12 +7,13 @@ use native.Mathlib.Omega.{arith}
 use borrow.Author.Tests.{le-ltb}
 use lib.ListN.{length}
 use Rattle.words.specs.Runs.{separatedRuns}
-use Rattle.words.specs.stretches.SeparatedRuns.{separated-runs-fewer}
+use Rattle.theory.specs.stretches.SeparatedRuns.{separated-runs-fewer}
 use Rattle.checks.specs.Lines.{tried, resultLine}
 use Rattle.checks.specs.declared.Checked.{Checked}
 use Rattle.checks.specs.declared.Checked.the-variants.{Passed}
 use Rattle.checks.proofs.LineLaws.{all-pass}
-use Rattle.runs.specs.Places.{WalkRoom, Walked, RoomAsked, RoomChecked}
+use Rattle.walking.specs.Walking.{WalkRoom, Walked}
+use Rattle.runs.specs.Room.{RoomAsked, RoomChecked}
 
 pub room-at-once : (w out : List ℕ) → 0 < length w → 3 * (length w - 1) ≤ length out → RoomChecked w out Passed out
 room-at-once w out o l =
@@ -20,7 +21,7 @@ room-at-once w out o l =
     record { answer = sym (all-pass _ (le-ltb (length out) (3 * length (separatedRuns w)) enough, search)); kept = refl }
 
 pub count-asks : {w longest : List ℕ} (out : List ℕ) → RoomAsked w longest → WalkRoom w longest out false
-count-asks out a = record { short = a .short; work = a .work; room = λ e. absurd (true≢false (sym e)) }
+count-asks out a = record { short = a .accepted .short; work = a .work; room = λ e. absurd (true≢false (sym e)) }
 
 pub room-counted : {w out out′ : List ℕ} {count : ℕ} {k : Checked} → Walked w out false count out′ → k ≡ tried (resultLine (length out′) (3 * count) ∷ [])
     → RoomChecked w out k out′

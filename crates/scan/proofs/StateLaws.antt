@@ -6,8 +6,8 @@ use Prim.Native.Nat.{ℕ, suc, _+_, _-_, _≤_, _<_}
 use native.Mathlib.Numerals.{add-one}
 use native.Mathlib.Omega.{arith}
 use lib.ListN.{length, getD}
-use Rattle.words.specs.orders.Decisions.{Decides, holds, fails, eqb-test}
-use Rattle.words.specs.scan.Scanned.{Scanned, scanned-same, scanned-less}
+use Rattle.theory.specs.orders.Decisions.{Decides, holds, fails, eqb-test}
+use Rattle.theory.specs.scan.Scanned.{Scanned, scanned-same, scanned-less}
 use Rattle.scan.specs.declared.Scan.{Scan}
 use Rattle.scan.specs.State.{stepState}
 

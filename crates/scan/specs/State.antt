@@ -5,7 +5,7 @@ use Prim.Native.Nat.{ℕ, _+_, _≤_, _<_}
 use lib.ListN.{length}
 use lib.Dec.{eqb}
 use Rattle.words.specs.Words.{mostLetters}
-use Rattle.words.specs.scan.Scanned.{Scanned, Stops}
+use Rattle.theory.specs.scan.Scanned.{Scanned, Stops}
 use Rattle.scan.specs.declared.Scan.{Scan}
 
 abbrev pub startState : Scan

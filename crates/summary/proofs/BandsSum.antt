@@ -1,6 +1,6 @@
 -- "the counts add up to the number of pieces": bands-sum, for a list of ends, and summary-bands-sum, for every answer of the summary.
 use mathlib.Core.Path.{_≡_, refl, ap, _∙_}
-use mathlib.Core.List.{List, [], _∷_, sum}
+use mathlib.Core.List.{List, [], _∷_, _++_, sum}
 use Prim.Native.Nat.{ℕ, zero, suc, _+_, _-_, _≤_, _<_}
 use native.Mathlib.Nat.{zero-add}
 use native.Mathlib.Decide.{ℕ-discrete}
@@ -8,13 +8,13 @@ use native.Mathlib.Omega.{arith}
 use lib.ListN.{length}
 use Rattle.words.specs.Words.{mostLetters}
 use Rattle.words.specs.Pairs.{endsOf}
-use Rattle.words.specs.places.EndsRise.{Rises, done, more, rises-few}
+use Rattle.theory.specs.places.EndsRise.{Rises, done, more, rises-few}
 use Rattle.checks.specs.declared.Checked.{Checked}
 use Rattle.checks.specs.declared.Checked.the-variants.{Passed, Refused}
-use Rattle.checks.specs.Lines.{tried, decided}
+use Rattle.checks.specs.Lines.{tried, decided, recordLines}
 use Rattle.summary.specs.declared.Summary.{Summary}
 use Rattle.summary.specs.Summary.{summaryLines, lengthsFrom, bitLength, countOf, bandsOf, emptySummary, summaryOf, Summarized}
-use Rattle.summary.proofs.EndsAdmitted.{EndsAccepted, ends-admitted}
+use Rattle.summary.proofs.EndsAdmitted.{EndsAccepted, all-admitted}
 use Rattle.summary.proofs.BitLengths.{bit-length-most, bit-length-some}
 use Rattle.summary.proofs.SummaryLaws.{bandsFrom, countsFrom, count-here, count-other, bands-are-counts}
 
@@ -54,9 +54,9 @@ pub bands-sum : (n : ℕ) (es : List ℕ) → Rises n 0 es → n ≤ mostLetters
 bands-sum n es r l = rw (bands-are-counts es) (bands-sum-from r l)
 
 -- beside a refusal all are 0
-pub summary-bands-sum : {w ps : List ℕ} {r : Summary} → Summarized w ps r → sum _+_ 0 (r .bands) ≡ r .count
+pub summary-bands-sum : {w ps : List ℕ} {r : Summary} → Summarized (recordLines w) w ps r → sum _+_ 0 (r .bands) ≡ r .count
 unfolding sum summaryOf
-summary-bands-sum {w} {ps} s = rw (s .answer) (go (tried (summaryLines w ps)) (ends-admitted w ps))
+summary-bands-sum {w} {ps} s = rw (s .answer) (go (tried (recordLines w ++ summaryLines w ps)) (all-admitted w ps))
   where
     es : List ℕ
     es = endsOf ps

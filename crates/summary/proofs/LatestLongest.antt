@@ -3,25 +3,25 @@
 -- (latest-only). The parts are those of demand 3: they lie between neighbouring ends, the first from 0.
 use mathlib.Core.Path.{_≡_, refl}
 use mathlib.Core.Logic.{⊎-elim}
-use mathlib.Core.List.{List, [], _∷_}
+use mathlib.Core.List.{List, [], _∷_, _++_}
 use Prim.Native.Nat.{ℕ, _+_, _-_, _≤_, _<_}
 use native.Mathlib.Decide.{ℕ-discrete}
 use native.Mathlib.Omega.{arith}
 use lib.ListN.{length}
-use Rattle.words.specs.orders.Decisions.{neither-less}
+use Rattle.theory.specs.orders.Decisions.{neither-less}
 use Rattle.words.specs.Pairs.{endsOf}
-use Rattle.words.specs.Statements.{Adjacent, here, there, Part}
-use Rattle.words.specs.places.Ends.{adjacent-cases, adjacent-one}
-use Rattle.words.specs.places.EndsRise.{Rises, done, more}
-use Rattle.words.specs.places.Parts.{rises-adjacent}
+use Rattle.theory.specs.Statements.{Adjacent, here, there, Part}
+use Rattle.theory.specs.places.Ends.{adjacent-cases, adjacent-one}
+use Rattle.theory.specs.places.EndsRise.{Rises, done, more}
+use Rattle.theory.specs.places.Parts.{rises-adjacent}
 use Rattle.checks.specs.declared.Checked.{Checked}
 use Rattle.checks.specs.declared.Checked.the-variants.{Passed, Refused}
-use Rattle.checks.specs.Lines.{tried, decided}
+use Rattle.checks.specs.Lines.{Line, tried, decided, recordLines}
 use Rattle.checks.specs.Answers.{numberOf}
 use Rattle.checks.proofs.LineLaws.{not-both, zero-passes}
 use Rattle.summary.specs.declared.Summary.{Summary}
 use Rattle.summary.specs.Summary.{summaryLines, lengthsFrom, greatest, startOf, countOf, summaryOf, emptySummary, Summarized}
-use Rattle.summary.proofs.EndsAdmitted.{EndsAccepted, ends-admitted}
+use Rattle.summary.proofs.EndsAdmitted.{EndsAccepted, all-admitted}
 use Rattle.summary.proofs.SummaryLaws.{start-here, start-later, count-here, count-other, count-more, count-greatest}
 
 pub record LatestLongest (es : List ℕ) (longest from : ℕ) : Type 0 where
@@ -98,12 +98,16 @@ latest-longest {es = es} r l =
     let x = start-latest (greatest (lengthsFrom 0 es)) r (count-greatest _ (lengthsFrom 0 es) refl (greatest-some r l)) in
     record { begins = x .begins; most = λ i j p. greatest-most es p; latest = x .latest }
 
-pub summary-latest : {w ps : List ℕ} {r : Summary} → Summarized w ps r → r .refusal ≡ 0 → LatestLongest (endsOf ps) (r .longest) (r .from)
+pub summary-latest : {w ps : List ℕ} {r : Summary} → Summarized (recordLines w) w ps r → r .refusal ≡ 0
+    → LatestLongest (endsOf ps) (r .longest) (r .from)
 unfolding summaryOf
-summary-latest {w} {ps} s z = rw (s .answer) (go (tried (summaryLines w ps)) (zero-passes (summaryLines w ps) refl) (ends-admitted w ps) (rw (s .answer) at z))
+summary-latest {w} {ps} s z = rw (s .answer) (go (tried lines) (zero-passes lines refl) (all-admitted w ps) (rw (s .answer) at z))
   where
     es : List ℕ
     es = endsOf ps
+
+    lines : List Line
+    lines = recordLines w ++ summaryLines w ps
 
     go : (k : Checked) → (numberOf k ≡ 0 → k ≡ Passed) → (k ≡ Passed → EndsAccepted w es) → decided k (summaryOf es) emptySummary .refusal ≡ 0
         → LatestLongest es (decided k (summaryOf es) emptySummary .longest) (decided k (summaryOf es) emptySummary .from)

@@ -10,7 +10,7 @@ use native.Mathlib.Nat.{add-zero}
 use lib.Dec.{eqb}
 use lib.ListN.{length, getD}
 use borrow.Author.Tests.{eq-eqb, ne-eqb}
-use Rattle.words.specs.orders.Decisions.{Decides, holds, fails, eqb-test, decides-and, true-decides, false-decides}
+use Rattle.theory.specs.orders.Decisions.{Decides, holds, fails, eqb-test, decides-and, true-decides, false-decides}
 use Rattle.summary.specs.Summary.{lengthsFrom, greatest, startOf, bitLength, countOf, bandsOf}
 
 -- ---- where the latest part of length n begins

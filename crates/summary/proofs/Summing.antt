@@ -151,7 +151,7 @@ module _ {es bands : List ℕ} {longest from last i : ℕ} (g : SummedUpTo es lo
       bands-are = rw (add-one i) (banded-next digits next-bands b p);
     }
 
-    -- the same, with the end as it stands in a paired list
+    -- the same, with the end as it was read
     pub summed-on : {end m f digits : ℕ} → end ≡ getD es i 0 → last < end → Chosen (end - last) longest from last f
         → Chosen (end - last) longest longest (end - last) m → digits ≡ bitLength (end - last) → 0 < digits
         → SummedUpTo es m f (countedAt (digits - 1) bands) end (i + 1)

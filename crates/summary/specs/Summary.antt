@@ -8,12 +8,12 @@ use lib.ListN.{length, getD, replicate}
 use lib.Dec.{eqb}
 use Rattle.words.specs.Words.{mostLetters}
 use Rattle.words.specs.Pairs.{endsOf}
-use Rattle.checks.specs.Lines.{Line, _unless_then_, recordLines, pairsLine}
+use Rattle.checks.specs.Lines.{Line, _unless_then_, pairsLine}
 use Rattle.summary.specs.declared.Summary.{Summary}
 
--- 1, 2 and 7, of a record and a paired list
+-- the summary's own line, tried past those at its door: 7, of a paired list
 abbrev pub summaryLines : List ℕ → List ℕ → List Line
-summaryLines w ps = recordLines w ++ pairsLine ps (length w) ∷ []
+summaryLines w ps = pairsLine ps (length w) ∷ []
 
 -- the lengths of the parts that end at es, the first of which begins at a
 unfoldable pub lengthsFrom : ℕ → List ℕ → List ℕ
@@ -65,9 +65,9 @@ summaryOf es =
 abbrev pub emptySummary : ℕ → Summary
 emptySummary e = record { refusal = e; count = 0; longest = 0; from = 0; bands = replicate 13 0 }
 
--- the summary's promise: "the summary take[s] the paired list" (request 108), and sums up its ends
-pub record Summarized (w ps : List ℕ) (r : Summary) : Type 0 where
-  pub answer : r ≡ summaryOf (endsOf ps) unless summaryLines w ps then emptySummary
+-- the summary's promise, by the lines at its door: "the summary take[s] the paired list" (request 108), and sums up its ends
+pub record Summarized (door : List Line) (w ps : List ℕ) (r : Summary) : Type 0 where
+  pub answer : r ≡ summaryOf (endsOf ps) unless door ++ summaryLines w ps then emptySummary
 
 -- ---- inside
 

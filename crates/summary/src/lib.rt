@@ -2,9 +2,10 @@
 //! be a factorization.
 use checks::Checked;
 ghost use mathlib.Core.Path.{_≡_};
+ghost use mathlib.Core.List.{[]};
 ghost use Rattle.words.specs.Pairs.{endsOf};
-ghost use Rattle.checks.specs.Lines.{tried};
-ghost use Rattle.summary.specs.Summary.{summaryLines, bitLength, emptySummary, summaryOf, Summarized, Summable};
+ghost use Rattle.checks.specs.Lines.{recordLines, Accepted};
+ghost use Rattle.summary.specs.Summary.{bitLength, emptySummary, summaryOf, Summarized, Summable};
 
 /// What the parts come to. Beside a refusal all fields but its number are 0.
 #[repr(C)]
@@ -19,13 +20,6 @@ pub struct Summary {
     pub from: u16,
     /// At k: how many parts have a length of k + 1 binary digits.
     pub bands: [u16; 13],
-}
-
-/// The record and the paired list: what every call on a list tries first.
-pub fn admit_pairs(word: &[u8], pairs: &[u16]) -> Checked
-    ensures { λ r. ⌜ r ≡ tried (summaryLines (now (word .entry)) (now (pairs .entry))) ⌝ }
-{
-    checks::check_record(word).then(checks::check_pairs(pairs, word.len()))
 }
 
 // The number of binary digits of n.
@@ -56,14 +50,14 @@ fn sum_up(pairs: &[u16]) -> Summary
     requires { ⌜ Summable (endsOf (now pairs)) ⌝ }
     ensures { λ r. ⌜ r ≡ summaryOf (endsOf (now (pairs .entry))) ⌝ }
 {
-    let count = pairs.len() / 2;
+    let count = pairs::count(pairs);
     let mut bands = [0u16; 13];
     let mut longest: u16 = 0;
     let mut from: u16 = 0;
     let mut last: u16 = 0;
     let mut i: usize = 0;
     while i < count {
-        let end = pairs[2 * i];
+        let end = pairs::factor_end(pairs, i);
         let size = end - last;
         from = if size < longest { from } else { last };
         longest = if size < longest { longest } else { size };
@@ -81,13 +75,25 @@ fn sum_up(pairs: &[u16]) -> Summary
     }
 }
 
-/// The summary of a record and a paired list, or refusal 1, 2 or 7.
-pub fn summarize(word: &[u8], pairs: &[u16]) -> Summary
-    ensures { λ r. ⌜ Summarized (now (word .entry)) (now (pairs .entry)) r ⌝ }
+/// The summary for an accepted record: the call's own line, 7, and its work.
+pub fn summarize_pairs(word: &[u8], pairs: &[u16]) -> Summary
+    requires { ⌜ Accepted (now word) ⌝ }
+    ensures { λ r. ⌜ Summarized [] (now (word .entry)) (now (pairs .entry)) r ⌝ }
 {
-    let admitted = admit_pairs(word, pairs);
-    let Checked::Passed = admitted else {
-        return Summary::empty(admitted.number());
+    let listed = checks::check_pairs(pairs, word.len());
+    let Checked::Passed = listed else {
+        return Summary::empty(listed.number());
     };
     sum_up(pairs)
+}
+
+/// The summary of a record and a paired list, or refusal 1, 2 or 7.
+pub fn summarize(word: &[u8], pairs: &[u16]) -> Summary
+    ensures { λ r. ⌜ Summarized (recordLines (now (word .entry))) (now (word .entry)) (now (pairs .entry)) r ⌝ }
+{
+    let recorded = checks::check_record(word);
+    let Checked::Passed = recorded else {
+        return Summary::empty(recorded.number());
+    };
+    summarize_pairs(word, pairs)
 }

@@ -2,32 +2,31 @@
 //! stretch that the place lies in.
 use checks::Checked;
 use checks::Counted;
+ghost use mathlib.Core.List.{[]};
+ghost use Rattle.checks.specs.Lines.{recordLines, Accepted};
+ghost use Rattle.table.specs.Table.{Tabled};
 
-mod merging; // fill_table: the table from its last entry on
-mod orders; // precedes, comes_before: letters and words in either order of the letters
-
-pub use orders::comes_before;
-pub use orders::precedes;
-ghost use mathlib.Core.Path.{_≡_};
-ghost use Rattle.checks.specs.Lines.{tried};
-ghost use Rattle.table.specs.Table.{tableLines, Tabled};
-
-// The record, then the result buffer's entries.
-fn admit(word: &[u8], entries: usize) -> Checked
-    ensures { λ r. ⌜ r ≡ tried (tableLines (now (word .entry)) entries) ⌝ }
+/// The start table of an accepted record: the call's own line, 4, and its work.
+pub fn tabulate(word: &[u8], lengths: &mut [u16]) -> Counted
+    requires { ⌜ Accepted (now word) ⌝ }
+    ensures { λ r. ⌜ Tabled [] (now (word .entry)) (now (lengths .entry)) r (now (lengths .exit)) ⌝ }
 {
-    checks::check_record(word).then(checks::check_result(entries, word.len()))
+    let room = checks::check_result(lengths.len(), word.len());
+    let Checked::Passed = room else {
+        return Counted::Refused(room.number());
+    };
+    merging::fill_table(word, lengths);
+    Counted::Count(word.len())
 }
 
 /// The start table: writes the Lyndon table of each stretch between separators, with 1 for a separator, into the first entries of `lengths`,
 /// as many as the word has letters, and answers their number. Refusals 1, 2, 4.
 pub fn lyndon_table(word: &[u8], lengths: &mut [u16]) -> Counted
-    ensures { λ r. ⌜ Tabled (now (word .entry)) (now (lengths .entry)) r (now (lengths .exit)) ⌝ }
+    ensures { λ r. ⌜ Tabled (recordLines (now (word .entry))) (now (word .entry)) (now (lengths .entry)) r (now (lengths .exit)) ⌝ }
 {
-    let admitted = admit(word, lengths.len());
-    let Checked::Passed = admitted else {
-        return Counted::Refused(admitted.number());
+    let recorded = checks::check_record(word);
+    let Checked::Passed = recorded else {
+        return Counted::Refused(recorded.number());
     };
-    merging::fill_table(word, lengths);
-    Counted::Count(word.len())
+    tabulate(word, lengths)
 }

@@ -2,7 +2,7 @@
 //! maximal repetitions.
 use checks::Counted;
 use extension::Extension;
-use icfl::CountedBreaks;
+use icfl_breaks::CountedBreaks;
 use naive::BREAK_ENTRIES;
 use naive::Call;
 use naive::ENTRIES;
@@ -62,7 +62,7 @@ fn call_with(
     match call {
         Call::Test => unbroken(test(word, work, list)),
         Call::Pieces => unbroken(icfl::icfl(word, work, list)),
-        Call::Breaks => icfl::icfl_with_breaks(word, work, list, breaks),
+        Call::Breaks => icfl_breaks::icfl_with_breaks(word, work, list, breaks),
         Call::Strict => unbroken(cfl::cfl_in(word, list)),
         Call::Repetitions => unbroken(runs::runs(word, list)),
         _ => unbroken(table::lyndon_table(word, list)),

@@ -58,23 +58,9 @@
 --   stretches    all this of records with separators
 pub mod Words
 pub mod Factorizations
-pub mod Statements
 pub mod Separated
-pub mod SeparatedStatements
 pub mod Pairs
 pub mod Runs
 pub mod Examples
 pub mod SeparatedExamples
 pub mod PairExamples
-pub mod Counterexamples
-pub mod orders
-pub mod lyndon
-pub mod icfl
-pub mod uniqueness
-pub mod breaks
-pub mod cfl_in
-pub mod places
-pub mod scan
-pub mod table
-pub mod repetitions
-pub mod stretches

@@ -1,5 +1,5 @@
 use borrow.Author.Needs.{needs}
-use mathlib.Core.Path.{ap, sym}
+use mathlib.Core.Path.{ap, sym, _∙_}
 use native.Mathlib.Omega.{arith}
 use Rattle.batch.specs.Batch.{entriesUsed}
 use Rattle.batch.proofs.entries_used.Statement.{statement}
@@ -8,17 +8,17 @@ use Rattle.batch.proofs.entries_used.Tie as tie
 enum-known-answer : tie.Need-enum-known-answer
 enum-known-answer c = search needs
 
-mul-result : tie.Need-mul-result
-mul-result c = let few = rw (c .before .answer .given .1) at (c .before .before .before .pre) in omega arith
+entries-requires : tie.Need-entries-requires
+entries-requires c κs = let few = rw (c .before .answer .given .1) at (c .before .before .before .pre) in omega arith
 
 enum-told : tie.Need-enum-told
 enum-told c = search needs
 
 returns : tie.Need-returns
-returns c = sym (ap entriesUsed (c .before .answer .given .1))
+returns c = c .entries .ensures ∙ sym (ap entriesUsed (c .before .before .answer .given .1))
 
 returns-2 : tie.Need-returns-2
 returns-2 c = search needs
 
 pub entries-used-spec : {M : Type 1} → statement M
-entries-used-spec = tie.close (tie.spec enum-known-answer mul-result enum-told returns returns-2)
+entries-used-spec = tie.close (tie.spec enum-known-answer entries-requires enum-told returns returns-2)

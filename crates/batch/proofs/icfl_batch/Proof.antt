@@ -6,6 +6,7 @@ use lib.ListN.{length}
 use mathlib.Core.Path.{_≡_, refl, _∙_}
 use native.Mathlib.Omega.{arith}
 use Rattle.buffers.proofs.PartLaws.{rest-length}
+use Rattle.checks.specs.Lines.{recordLines}
 use Rattle.checks.proofs.LineLaws.{passed}
 use Rattle.batch.proofs.Cutting.{used-few, batch-refused, Cutting, cutting-starts, cutting-ends, record-from, record-end, lent-on, lent-room}
 use Rattle.batch.proofs.icfl_batch.Statement.{statement}
@@ -13,7 +14,7 @@ use Rattle.batch.proofs.icfl_batch.Tie as tie
 
 abbrev Inv-loop : tie.InvT-loop
 Inv-loop bytes record-ends work₀ pairs₀ answers₀ from₀ used₀ i₀ work pairs answers from used i =
-    Cutting bytes record-ends work₀ pairs₀ work pairs answers from used i × (length work ≡ length work₀) × (length pairs ≡ length pairs₀)
+    Cutting recordLines bytes record-ends work₀ pairs₀ work pairs answers from used i × (length work ≡ length work₀) × (length pairs ≡ length pairs₀)
 
 abbrev μ-loop : tie.MeasureT-loop
 μ-loop bytes record-ends work₀ pairs₀ answers₀ from₀ used₀ i₀ work pairs answers from used i = length record-ends - i
@@ -31,10 +32,10 @@ number-requires : tie.Need-number-requires Inv-loop μ-loop
 number-requires c κs = search needs
 
 returns : tie.Need-returns Inv-loop μ-loop
-returns c = batch-refused _ _ _ _ (c .before .before .before .check-record-ends .ensures) (c .before .before .match .keys2) (c .number .ensures)
+returns c = batch-refused _ _ _ _ _ (c .before .before .before .check-record-ends .ensures) (c .before .before .match .keys2) (c .number .ensures)
 
 loop-holds : tie.Need-loop-holds Inv-loop μ-loop
-loop-holds c = (cutting-starts _ _ _ _ (passed _ (c .before .before .check-record-ends .ensures) (c .before .match .keys1)), refl, refl)
+loop-holds c = (cutting-starts _ _ _ _ _ (passed _ (c .before .before .check-record-ends .ensures) (c .before .match .keys1)), refl, refl)
 
 mul-end : tie.Need-mul-end Inv-loop μ-loop
 mul-end c = search needs

@@ -6,7 +6,7 @@ use native.Mathlib.Omega.{arith}
 use lib.ListN.{length, drop, length-set}
 use borrow.Author.Tests.{not-true, not-false}
 use Rattle.words.specs.Words.{mostLetters}
-use Rattle.words.specs.stretches.CutSteps.{CutBy}
+use Rattle.theory.specs.stretches.CutSteps.{CutBy}
 use Rattle.breaks.proofs.Finding.{Finding, find-starts, breaks-few, find-fits, find-ends, cut-by, cut-inside, find-beside, find-break}
 use Rattle.breaks.proofs.find_cuts.Statement.{statement}
 use Rattle.breaks.proofs.find_cuts.Tie as tie

@@ -1,19 +1,20 @@
 use borrow.Author.Needs.{needs}
-use Rattle.exports.proofs.NumberLaws.{cfl-in-small, filled-numbers}
+use Rattle.checks.proofs.RecordLaws.{accepted}
+use Rattle.exports.proofs.SmallLaws.{cfl-in-small}
 use Rattle.exports.proofs.metsroeb_cfl_in.Statement.{statement}
 use Rattle.exports.proofs.metsroeb_cfl_in.Tie as tie
 
 cfl-in-requires : tie.Need-cfl-in-requires
 cfl-in-requires c κs = search needs
 
-numbers-of-requires : tie.Need-numbers-of-requires
-numbers-of-requires c κs = cfl-in-small _ _ _ _ (c .before .before .cfl-in .ensures)
+tell-count-requires : tie.Need-tell-count-requires
+tell-count-requires c κs = cfl-in-small _ _ _ (accepted _) (c .before .before .before .cfl-in .ensures)
 
 same-length : tie.Need-same-length
 same-length c = search needs
 
 returns : tie.Need-returns
-returns c = filled-numbers (c .before .before .before .cfl-in .ensures) (c .numbers-of .result) (c .numbers-of .ensures)
+returns c = (_, c .before .before .before .before .cfl-in .ensures, c .tell-count .ensures)
 
 pub metsroeb-cfl-in-spec : {M : Type 1} → statement M
-metsroeb-cfl-in-spec = tie.close (tie.spec cfl-in-requires numbers-of-requires same-length returns)
+metsroeb-cfl-in-spec = tie.close (tie.spec cfl-in-requires tell-count-requires same-length returns)

@@ -1,13 +1,14 @@
 use borrow.Author.Needs.{needs}
-use Rattle.exports.proofs.NumberLaws.{icfl-small, filled-numbers}
+use Rattle.checks.proofs.RecordLaws.{accepted}
+use Rattle.exports.proofs.SmallLaws.{icfl-small}
 use Rattle.exports.proofs.metsroeb_icfl.Statement.{statement}
 use Rattle.exports.proofs.metsroeb_icfl.Tie as tie
 
 icfl-requires : tie.Need-icfl-requires
 icfl-requires c κs = search needs
 
-numbers-of-requires : tie.Need-numbers-of-requires
-numbers-of-requires c κs = icfl-small _ _ _ _ _ _ (c .before .before .before .before .icfl .ensures)
+tell-count-requires : tie.Need-tell-count-requires
+tell-count-requires c κs = icfl-small (accepted _) (c .before .before .before .before .before .icfl .ensures)
 
 same-length : tie.Need-same-length
 same-length c = search needs
@@ -16,10 +17,8 @@ same-length-2 : tie.Need-same-length-2
 same-length-2 c = search needs
 
 returns : tie.Need-returns
-returns c =
-    let done = c .before .before .before .before .before .icfl .ensures in
-    record { filled = filled-numbers (done .filled) (c .numbers-of .result) (c .numbers-of .ensures); worked = done .worked }
+returns c = (_, c .before .before .before .before .before .before .icfl .ensures, c .tell-count .ensures)
 
 pub metsroeb-icfl-spec : {M : Type 1} → statement M
 metsroeb-icfl-spec =
-    tie.close (tie.spec icfl-requires numbers-of-requires same-length same-length-2 returns)
+    tie.close (tie.spec icfl-requires tell-count-requires same-length same-length-2 returns)

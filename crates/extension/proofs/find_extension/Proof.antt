@@ -1,40 +1,20 @@
--- Admission, the verdict, then the entries that the scan used are cleared.
+-- Refused at the door, or the room's promise past it.
 use borrow.Author.Needs.{needs}
-use borrow.Author.Tests.{ltb-false}
 use mathlib.Core.Path.{_≡_, _∙_}
-use mathlib.Core.List.{List}
 use Prim.Native.Nat.{ℕ}
-use native.Mathlib.Omega.{arith}
-use lib.ListN.{length}
-use Rattle.buffers.specs.Buffers.{cleared}
-use Rattle.buffers.proofs.BufferLaws.{cleared-kept}
-use Rattle.checks.specs.Lines.{tried}
+use Rattle.checks.specs.Lines.{tried, recordLines}
 use Rattle.checks.specs.declared.Checked.the-variants.{Passed}
-use Rattle.checks.proofs.LineLaws.{passed, refused, unmet}
+use Rattle.checks.proofs.LineLaws.{passed, past-door, refused-at-door}
 use Rattle.checks.proofs.RecordLaws.{accepted}
 use Rattle.extension.specs.declared.Extension.{Extension}
-use Rattle.extension.specs.Extension.{extensionLines, ExtensionFound, TestRoom, Verdict}
 use Rattle.extension.proofs.find_extension.Statement.{statement}
 use Rattle.extension.proofs.find_extension.Tie as tie
 
-test-room : (w work : List ℕ) → tried (extensionLines w (length work)) ≡ Passed → TestRoom w work
-test-room w work e =
-    let a = accepted w _ e in
-    record { nonempty = a .nonempty; short = a .short; entries = ltb-false (length work) (length w) (unmet (extensionLines w (length work)) e .1 .1 .0) }
+passed-at : (c : tie.At-match-keys1) → tried (recordLines (c .before .before .before .before .args .word .now)) ≡ Passed
+passed-at c = passed _ (c .before .check-record .ensures) (c .match .keys1)
 
-verdict-found : {w work work₁ work₂ : List ℕ} {r : Extension} → tried (extensionLines w (length work)) ≡ Passed → Verdict w work r work₁
-    → work₂ ≡ cleared (length w) work₁ → ExtensionFound w work r work₂
-verdict-found {w} {work} {work₁} none v e = record { answer = rw none (v .answer); buffer = rw none (e ∙ cleared-kept (length w) work₁ work (v .kept)) }
-
-passed-at : (c : tie.After-enum-told) → (let start = c .before .before .before .before .before in
-    tried (extensionLines (start .args .word .now) (length (start .args .work .now))) ≡ Passed)
-passed-at c = passed _ (c .before .before .admit .ensures) (c .before .match .keys1)
-
-room-at : (c : tie.After-enum-told) → (let start = c .before .before .before .before .before in TestRoom (start .args .word .now) (start .args .work .now))
-room-at c = test-room _ _ (passed-at c)
-
-admit-requires : tie.Need-admit-requires
-admit-requires c κs = search needs
+check-record-requires : tie.Need-check-record-requires
+check-record-requires c κs = search needs
 
 enum-told : tie.Need-enum-told
 enum-told c = search needs
@@ -47,27 +27,29 @@ number-requires c κs = search needs
 
 returns : tie.Need-returns
 returns c =
-    let admit = c .before .before .before .admit .ensures in
+    let says = c .before .before .before .check-record .ensures in
     let keys = c .before .before .match .keys2 in
-    record { answer = refused _ _ _ admit keys (c .number .ensures); buffer = refused _ _ _ admit keys (c .number .ensures) }
+    record {
+      answer = refused-at-door _ _ _ (λ (n : ℕ). Extension.Refused n) says keys (c .number .ensures);
+      buffer = refused-at-door _ _ _ _ says keys (c .number .ensures);
+    }
 
-extension-of-requires : tie.Need-extension-of-requires
-extension-of-requires c κs = room-at (c .before)
-
-clear-requires : tie.Need-clear-requires
-clear-requires c κs =
-    let at-found = c .before .before .before in
-    omega (arith, at-found .extension-of .kept, room-at (at-found .before .before) .entries)
+test-requires : tie.Need-test-requires
+test-requires c κs = accepted _ (passed-at (c .before .before))
 
 same-length : tie.Need-same-length
 same-length c = search needs
 
 returns-2 : tie.Need-returns-2
 returns-2 c =
-    let at-found = c .before .before .before .before .before .before in
-    verdict-found (passed-at (at-found .before .before)) (at-found .extension-of .ensures) (c .before .before .clear .ensures)
+    let at-room = c .before .before in
+    let p = passed-at (at-room .before .before .before) in
+    record {
+      answer = at-room .test .ensures .answer ∙ past-door _ _ _ (λ (n : ℕ). Extension.Refused n) p;
+      buffer = at-room .test .ensures .buffer ∙ past-door _ _ _ _ p;
+    }
 
 pub find-extension-spec : {M : Type 1} → statement M
 find-extension-spec =
     tie.close
-    (tie.spec admit-requires enum-told enum-told-2 number-requires returns extension-of-requires clear-requires same-length returns-2)
+    (tie.spec check-record-requires enum-told enum-told-2 number-requires returns test-requires same-length returns-2)

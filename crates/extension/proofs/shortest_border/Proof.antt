@@ -2,8 +2,8 @@
 use borrow.Author.Needs.{needs}
 use native.Mathlib.Omega.{arith}
 use Prim.Native.Nat.{_-_}
-use Rattle.words.specs.scan.ScannedBorders.{Walk}
-use Rattle.words.specs.scan.Scanned.{Scanned}
+use Rattle.theory.specs.scan.ScannedBorders.{Walk}
+use Rattle.theory.specs.scan.Scanned.{Scanned}
 use lib.ListN.{getD}
 use Rattle.extension.proofs.ScanLaws.{walk-starts, entry, walk-further, walk-found, walk-none}
 use Rattle.extension.proofs.shortest_border.Statement.{statement}

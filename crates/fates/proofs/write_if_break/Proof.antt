@@ -6,7 +6,7 @@ use Prim.Native.Nat.{_+_, _≤_}
 use native.Mathlib.Omega.{arith}
 use lib.ListN.{length}
 use Rattle.words.specs.declared.Break.{Break}
-use Rattle.words.specs.stretches.CutSteps.{besideSeparator}
+use Rattle.theory.specs.stretches.CutSteps.{besideSeparator}
 use Rattle.fates.specs.Fates.{breakBy}
 use Rattle.fates.proofs.EntryLaws.{no-break-written, break-room, break-written}
 use Rattle.fates.proofs.write_if_break.Statement.{statement}

@@ -1,39 +1,19 @@
--- Admission; the ends are found in the work buffer; then line 4 refuses, or the pairs are written; either way the buffer is cleared.
+-- Refused at the door, or the room's promise past it.
 use borrow.Author.Needs.{needs}
-use mathlib.Core.Path.{_≡_}
-use Prim.Native.Nat.{_*_, _≤_}
-use native.Mathlib.Omega.{arith}
-use lib.ListN.{length}
-use Rattle.words.specs.Words.{mostLetters}
-use Rattle.checks.specs.Lines.{tried}
+use mathlib.Core.Path.{_≡_, refl}
+use Rattle.checks.specs.Lines.{tried, recordLines}
 use Rattle.checks.specs.declared.Checked.the-variants.{Passed}
 use Rattle.checks.proofs.LineLaws.{passed}
-use Rattle.checks.proofs.RecordLaws.{enough}
-use Rattle.breaks.specs.Cutting.{CutRoom}
-use Rattle.icfl.specs.Icfl.{icflAdmission}
-use Rattle.icfl.proofs.IcflCases.{pairs-room, cut-room, admission-refused, result-refused, pairs-written}
+use Rattle.checks.proofs.RecordLaws.{accepted}
+use Rattle.icfl.proofs.IcflCases.{icfl-at-door, icfl-past-door}
 use Rattle.icfl.proofs.icfl.Statement.{statement}
 use Rattle.icfl.proofs.icfl.Tie as tie
 
--- past the admission
-admitted-at : (c : tie.After-enum-told) → (let start = c .before .before .before .before .before .before in
-    tried (icflAdmission (start .args .word .now) (length (start .args .work .now))) ≡ Passed)
-admitted-at c = passed _ (c .before .before .admit .ensures) (c .before .match .keys1)
+passed-at : (c : tie.At-match-keys1) → tried (recordLines (c .before .before .before .before .before .args .word .now)) ≡ Passed
+passed-at c = passed _ (c .before .check-record .ensures) (c .match .keys1)
 
-room-at : (c : tie.After-enum-told) → (let start = c .before .before .before .before .before .before in
-    CutRoom (start .args .word .now) (start .args .work .now))
-room-at c = cut-room _ _ (admitted-at c)
-
--- the entries that will be cleared lie in the work buffer
-inside-at : (c : tie.After-find-ends) → (let start = c .before .before .before .before .before .before .before .before in
-    (3 * length (start .args .word .now) ≤ length (c .find-ends .last .1 .0)) × (length (start .args .word .now) ≤ length (c .find-ends .last .1 .0))
-    × (length (start .args .word .now) ≤ mostLetters))
-inside-at c =
-    let room = room-at (c .before .before) in
-    (omega (arith, room .entries, c .find-ends .kept), omega (arith, room .entries, c .find-ends .kept), room .short)
-
-admit-requires : tie.Need-admit-requires
-admit-requires c κs = search needs
+check-record-requires : tie.Need-check-record-requires
+check-record-requires c κs = search needs
 
 enum-told : tie.Need-enum-told
 enum-told c = search needs
@@ -45,89 +25,23 @@ number-requires : tie.Need-number-requires
 number-requires c κs = search needs
 
 returns : tie.Need-returns
-returns c = admission-refused _ _ _ (c .before .before .before .admit .ensures) (c .before .before .match .keys2) (c .number .ensures)
+returns c = icfl-at-door _ _ _ _ refl (c .before .before .before .check-record .ensures) (c .before .before .match .keys2) (c .number .ensures)
 
-find-ends-requires : tie.Need-find-ends-requires
-find-ends-requires c κs = room-at (c .before)
-
-sub-count : tie.Need-sub-count
-sub-count c = search needs
-
-mul-check-result : tie.Need-mul-check-result
-mul-check-result c = omega (arith, inside-at (c .before .before))
-
-check-result-requires : tie.Need-check-result-requires
-check-result-requires c κs = search needs
-
-enum-told-3 : tie.Need-enum-told-3
-enum-told-3 c = search needs
-
-enum-told-4 : tie.Need-enum-told-4
-enum-told-4 c = search needs
-
-mul-clear : tie.Need-mul-clear
-mul-clear c = omega (arith, inside-at (c .before .before .before .before .before .before))
-
-clear-requires : tie.Need-clear-requires
-clear-requires c κs = omega (arith, inside-at (c .before .before .before .before .before .before))
-
-number-requires-2 : tie.Need-number-requires-2
-number-requires-2 c κs = search needs
+cut-requires : tie.Need-cut-requires
+cut-requires c κs = accepted _ (passed-at (c .before .before .before))
 
 same-length : tie.Need-same-length
 same-length c = search needs
 
-returns-2 : tie.Need-returns-2
-returns-2 c =
-    let at-room = c .before .before .before .before .before .before in
-    let at-found = at-room .before .before .before .before in
-    result-refused _ _ _ (admitted-at (at-found .before .before)) (at-found .find-ends .ensures) (inside-at at-found .1) (c .before .before .before .clear .ensures)
-    (at-room .before .check-result .ensures) (at-room .match2 .keys2) (c .number2 .ensures)
-
-mul-write-pairs : tie.Need-mul-write-pairs
-mul-write-pairs c = search needs
-
-sub-write-pairs : tie.Need-sub-write-pairs
-sub-write-pairs c = search needs
-
-part-write-pairs-start : tie.Need-part-write-pairs-start
-part-write-pairs-start c = search needs
-
-part-write-pairs-end : tie.Need-part-write-pairs-end
-part-write-pairs-end c = omega (arith, inside-at (c .before .before .before .before .before .before))
-
-write-pairs-requires : tie.Need-write-pairs-requires
-write-pairs-requires c κs =
-    let at-room = c .before .before .before .before in
-    let at-found = at-room .before .before .before .before in
-    let start = at-found .before .before .before .before .before .before .before .before in
-    let fits = passed _ (at-room .before .check-result .ensures) (at-room .match2 .keys1) in
-    let inside = inside-at at-found in
-    pairs-room (at-found .find-ends .ensures) (inside .1) (inside .2) (enough 4 (length (start .args .pairs .now)) _ fits)
-
-mul-clear-2 : tie.Need-mul-clear-2
-mul-clear-2 c = omega (arith, inside-at (c .before .before .before .before .before .before .before .before .before .before .before .before))
-
-clear-requires-2 : tie.Need-clear-requires-2
-clear-requires-2 c κs = omega (arith, inside-at (c .before .before .before .before .before .before .before .before .before .before .before .before))
-
 same-length-2 : tie.Need-same-length-2
 same-length-2 c = search needs
 
-same-length-3 : tie.Need-same-length-3
-same-length-3 c = search needs
-
-returns-3 : tie.Need-returns-3
-returns-3 c =
-    let at-pairs = c .before .before .before .before .before .before in
-    let at-room = at-pairs .before .before .before .before .before in
-    let at-found = at-room .before .before .before .before in
-    pairs-written _ _ _ (admitted-at (at-found .before .before)) (at-found .find-ends .ensures) (inside-at at-found .1) (c .before .before .clear2 .ensures)
-    (passed _ (at-room .before .check-result .ensures) (at-room .match2 .keys1)) (at-pairs .write-pairs .ensures)
+returns-2 : tie.Need-returns-2
+returns-2 c =
+    let at-room = c .before .before .before .before in
+    icfl-past-door _ _ _ _ (passed-at (at-room .before .before .before .before)) (at-room .cut .ensures)
 
 pub icfl-spec : {M : Type 1} → statement M
 icfl-spec =
     tie.close
-    (tie.spec admit-requires enum-told enum-told-2 number-requires returns find-ends-requires sub-count mul-check-result check-result-requires
-    enum-told-3 enum-told-4 mul-clear clear-requires number-requires-2 same-length returns-2 mul-write-pairs sub-write-pairs part-write-pairs-start part-write-pairs-end
-    write-pairs-requires mul-clear-2 clear-requires-2 same-length-2 same-length-3 returns-3)
+    (tie.spec check-record-requires enum-told enum-told-2 number-requires returns cut-requires same-length same-length-2 returns-2)

@@ -1,12 +1,14 @@
 use borrow.Author.Needs.{needs}
 use mathlib.Core.Path.{_∙_}
-use Rattle.words.specs.places.PairedLists.{ends-half}
 use Rattle.checks.proofs.LineLaws.{both}
 use Rattle.reading.proofs.admit_factor.Statement.{statement}
 use Rattle.reading.proofs.admit_factor.Tie as tie
 
-admit-pairs-requires : tie.Need-admit-pairs-requires
-admit-pairs-requires c κs = search needs
+check-pairs-requires : tie.Need-check-pairs-requires
+check-pairs-requires c κs = search needs
+
+count-requires : tie.Need-count-requires
+count-requires c κs = search needs
 
 check-number-requires : tie.Need-check-number-requires
 check-number-requires c κs = search needs
@@ -14,10 +16,11 @@ check-number-requires c κs = search needs
 then-requires : tie.Need-then-requires
 then-requires c κs = search needs
 
+-- the number is held against that of the pairs
 returns : tie.Need-returns
 returns c =
-    both _ _ (c .then .ensures) (c .before .before .admit-pairs .ensures)
-    (c .before .check-number .ensures ∙ rw (ends-half (c .before .before .before .before .before .args .pairs .now)))
+    let at-count = c .before .before in
+    both _ _ (c .then .ensures) (at-count .before .check-pairs .ensures) (c .before .check-number .ensures ∙ rw (at-count .count .ensures))
 
 pub admit-factor-spec : {M : Type 1} → statement M
-admit-factor-spec = tie.close (tie.spec admit-pairs-requires check-number-requires then-requires returns)
+admit-factor-spec = tie.close (tie.spec check-pairs-requires count-requires check-number-requires then-requires returns)

@@ -1,7 +1,7 @@
 -- Three entries for each letter but one are enough (the "Runs" theorem); else the runs are counted.
 use borrow.Author.Needs.{needs}
 use native.Mathlib.Omega.{arith}
-use Rattle.words.specs.stretches.SeparatedRuns.{separated-runs-few}
+use Rattle.theory.specs.stretches.SeparatedRuns.{separated-runs-few}
 use Rattle.runs.proofs.RoomLaws.{room-at-once, count-asks, room-counted}
 use Rattle.runs.proofs.check_room.Statement.{statement}
 use Rattle.runs.proofs.check_room.Tie as tie
@@ -15,7 +15,7 @@ mul-if1 c = search needs
 returns : tie.Need-returns
 returns c =
     let start = c .before .before .before .before in
-    room-at-once (start .args .word .now) (start .args .runs .now) (start .pre .nonempty) (c .if1 .taken)
+    room-at-once (start .args .word .now) (start .args .runs .now) (start .pre .accepted .nonempty) (c .if1 .taken)
 
 walk-requires : tie.Need-walk-requires
 walk-requires c κs = count-asks _ (c .before .before .before .before .before .before .pre)
@@ -24,7 +24,7 @@ mul-check-result : tie.Need-mul-check-result
 mul-check-result c =
     let at-walk = c .before .before .before .before in
     let start = at-walk .before .before .before .before .before .before .before in
-    omega (arith, at-walk .walk .ensures .counted, separated-runs-few (start .args .word .now), start .pre .short)
+    omega (arith, at-walk .walk .ensures .counted, separated-runs-few (start .args .word .now), start .pre .accepted .short)
 
 check-result-requires : tie.Need-check-result-requires
 check-result-requires c κs = search needs

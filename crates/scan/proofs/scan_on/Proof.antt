@@ -3,7 +3,7 @@ use borrow.Author.Needs.{needs}
 use Prim.Native.Nat.{_-_}
 use native.Mathlib.Omega.{arith}
 use lib.ListN.{length}
-use Rattle.words.specs.scan.Scanned.{Scanned}
+use Rattle.theory.specs.scan.Scanned.{Scanned}
 use Rattle.scan.proofs.StateLaws.{nearer, stepped}
 use Rattle.scan.proofs.scan_on.Statement.{statement}
 use Rattle.scan.proofs.scan_on.Tie as tie

@@ -1,13 +1,11 @@
 -- What is summed up so far, together with the parts that follow, is the definition's summary. A part has 1 to 4,096 letters, so its band is one of the
 -- thirteen; and no count is above the number of ends, so none wraps.
 use borrow.Author.Needs.{needs}
-use mathlib.Core.Path.{_≡_, sym}
 use mathlib.Core.Logic.{⊎-map}
-use Prim.Native.Nat.{_-_, _*_, _/_, _≤_, _<_}
+use Prim.Native.Nat.{_-_, _≤_, _<_}
 use native.Mathlib.Omega.{arith}
-use lib.ListN.{length, getD}
+use lib.ListN.{length}
 use Rattle.words.specs.Pairs.{endsOf}
-use Rattle.words.specs.places.PairedLists.{ends-half, ends-at}
 use Rattle.summary.proofs.BitLengths.{bit-length-some, bit-length-most}
 use Rattle.summary.proofs.Summing.{SummedUpTo, summed-start, summed-above, summed-room, summed-on, summed-end}
 use Rattle.summary.proofs.sum_up.Statement.{statement}
@@ -17,40 +15,36 @@ abbrev Inv-loop : tie.InvT-loop
 Inv-loop pairs count bands₀ longest₀ from₀ last₀ i₀ bands longest from last i = SummedUpTo (endsOf pairs) longest from bands last i
 
 abbrev μ-loop : tie.MeasureT-loop
-μ-loop pairs count bands₀ longest₀ from₀ last₀ i₀ bands longest from last i = length pairs / 2 - i
+μ-loop pairs count bands₀ longest₀ from₀ last₀ i₀ bands longest from last i = count - i
 
--- one of the ends is taken, and stands in the list
-taken-at : (c : tie.In-loop Inv-loop μ-loop) → c .before .loop .i < length (endsOf (c .before .before .before .args .pairs .now))
-taken-at c = omega (arith, ends-half (c .before .before .before .args .pairs .now), c .loop-test .taken)
+-- one of the ends is taken
+taken-at : (c : tie.In-loop Inv-loop μ-loop) → c .before .loop .i < length (endsOf (c .before .before .before .before .args .pairs .now))
+taken-at c = omega (arith, c .before .before .count .ensures, c .loop-test .taken)
 
-end-at : (c : tie.In-loop Inv-loop μ-loop) → (let ps = c .before .before .before .args .pairs .now in
-    getD ps (2 * c .before .loop .i) 0 ≡ getD (endsOf ps) (c .before .loop .i) 0)
-end-at c = sym (ends-at (c .before .before .before .args .pairs .now) (c .before .loop .i) (taken-at c))
-
-above-at : (c : tie.In-loop Inv-loop μ-loop) → c .before .loop .last < getD (c .before .before .before .args .pairs .now) (2 * c .before .loop .i) 0
-above-at c = rw (end-at c) (summed-above (c .before .loop .inv) (taken-at c) (c .before .before .before .pre))
+above-at : (c : tie.After-factor-end Inv-loop μ-loop) → c .before .before .loop .last < c .factor-end .result
+above-at c =
+    let at-loop = c .before .before in
+    rw (c .factor-end .ensures) (summed-above (at-loop .loop .inv) (taken-at (c .before)) (at-loop .before .before .before .pre))
 
 -- a band that is counted
 band-at : (c : tie.After-bit-length Inv-loop μ-loop) → (1 ≤ c .bit-length .result) × (c .bit-length .result ≤ 13)
 band-at c =
-    let turn = c .before .before .before .before in
-    let short = turn .before .before .before .pre .short (turn .before .loop .i) in
-    rw (c .bit-length .ensures) (bit-length-some _ (omega (arith, above-at turn)), bit-length-most _ (omega (arith, short, end-at turn)))
+    let at-end = c .before .before .before in
+    let at-loop = at-end .before .before in
+    let short = at-loop .before .before .before .pre .short (at-loop .loop .i) in
+    rw (c .bit-length .ensures) (bit-length-some _ (omega (arith, above-at at-end)), bit-length-most _ (omega (arith, short, at-end .factor-end .ensures)))
+
+count-requires : tie.Need-count-requires Inv-loop μ-loop
+count-requires c κs = search needs
 
 loop-holds : tie.Need-loop-holds Inv-loop μ-loop
 loop-holds c = summed-start _
 
-mul-end : tie.Need-mul-end Inv-loop μ-loop
-mul-end c = search needs
-
-mul-end-2 : tie.Need-mul-end-2 Inv-loop μ-loop
-mul-end-2 c = search needs
-
-shared-slice-read-end : tie.Need-shared-slice-read-end Inv-loop μ-loop
-shared-slice-read-end c = search needs
+factor-end-requires : tie.Need-factor-end-requires Inv-loop μ-loop
+factor-end-requires c κs = taken-at c
 
 sub-size : tie.Need-sub-size Inv-loop μ-loop
-sub-size c = omega (arith, above-at (c .before))
+sub-size c = omega (arith, above-at c)
 
 bit-length-requires : tie.Need-bit-length-requires Inv-loop μ-loop
 bit-length-requires c κs = search needs
@@ -67,7 +61,7 @@ array-read-bands c = omega (arith, band-at c)
 add-bands : tie.Need-add-bands Inv-loop μ-loop
 add-bands c =
     let at-loop = c .before .before .before .before .before in
-    omega (arith, summed-room (at-loop .loop .inv) (c .bit-length .result - 1) (omega (arith, band-at c)), at-loop .before .before .pre .few)
+    omega (arith, summed-room (at-loop .loop .inv) (c .bit-length .result - 1) (omega (arith, band-at c)), at-loop .before .before .before .pre .few)
 
 array-write-bands : tie.Need-array-write-bands Inv-loop μ-loop
 array-write-bands c = omega (arith, band-at c)
@@ -80,20 +74,20 @@ loop-less c = search needs
 
 loop-again : tie.Need-loop-again Inv-loop μ-loop
 loop-again c =
-    let turn = c .before .before .before .before in
-    summed-on (turn .before .loop .inv) (taken-at turn) (end-at turn) (above-at turn)
+    let at-end = c .before .before .before in
+    summed-on (at-end .before .before .loop .inv) (taken-at (at-end .before)) (at-end .factor-end .ensures) (above-at at-end)
     (⊎-map (λ x. (omega (arith, x .0 .taken), x .1)) (λ x. (omega (arith, x .0 .left), x .1)) (c .before .before .if1 .came))
     (⊎-map (λ x. (omega (arith, x .0 .taken), x .1)) (λ x. (omega (arith, x .0 .left), x .1)) (c .before .if2 .came))
     (c .bit-length .ensures) (band-at c .0)
 
-cast-t22 : tie.Need-cast-t22 Inv-loop μ-loop
-cast-t22 c = omega (arith, c .before .loop .inv .inside, c .before .before .before .pre .few)
+cast-t19 : tie.Need-cast-t19 Inv-loop μ-loop
+cast-t19 c = omega (arith, c .before .loop .inv .inside, c .before .before .before .before .pre .few)
 
 returns : tie.Need-returns Inv-loop μ-loop
-returns c = summed-end (c .before .loop .inv) (omega (arith, ends-half (c .before .before .before .args .pairs .now), c .loop-test .left))
+returns c = summed-end (c .before .loop .inv) (omega (arith, c .before .before .count .ensures, c .loop-test .left))
 
 pub sum-up-spec : {M : Type 1} → statement M
 sum-up-spec =
     tie.close
-    (tie.spec Inv-loop μ-loop loop-holds mul-end mul-end-2 shared-slice-read-end sub-size bit-length-requires sub-band mul-bands array-read-bands add-bands
-    array-write-bands add-i loop-less loop-again cast-t22 returns)
+    (tie.spec Inv-loop μ-loop count-requires loop-holds factor-end-requires sub-size bit-length-requires sub-band mul-bands array-read-bands add-bands
+    array-write-bands add-i loop-less loop-again cast-t19 returns)

@@ -1,23 +1,19 @@
--- A call that is not admitted leaves no part; one that is has a list that the loop takes.
+-- Refused at the door, or the room's promise past it.
 use borrow.Author.Needs.{needs}
 use mathlib.Core.Path.{_≡_, _∙_}
+use Rattle.checks.specs.Lines.{tried, recordLines}
 use Rattle.checks.specs.declared.Checked.the-variants.{Passed}
-use Rattle.words.specs.Pairs.{endsOf}
-use Rattle.checks.specs.Lines.{tried}
-use Rattle.checks.proofs.LineLaws.{passed, refused}
-use Rattle.summary.specs.Summary.{summaryLines, emptySummary}
-use Rattle.summary.proofs.EndsAdmitted.{EndsAccepted, ends-admitted, summable}
+use Rattle.checks.proofs.LineLaws.{passed, past-door, refused-at-door}
+use Rattle.checks.proofs.RecordLaws.{accepted}
+use Rattle.summary.specs.Summary.{emptySummary}
 use Rattle.summary.proofs.summarize.Statement.{statement}
 use Rattle.summary.proofs.summarize.Tie as tie
 
-passed-at : (c : tie.After-enum-told) → let a = c .before .before .before .before .before .args in tried (summaryLines (a .word .now) (a .pairs .now)) ≡ Passed
-passed-at c = passed _ (c .before .before .admit-pairs .ensures) (c .before .match .keys1)
+passed-at : (c : tie.At-match-keys1) → tried (recordLines (c .before .before .before .before .args .word .now)) ≡ Passed
+passed-at c = passed _ (c .before .check-record .ensures) (c .match .keys1)
 
-accepted-at : (c : tie.After-enum-told) → let a = c .before .before .before .before .before .args in EndsAccepted (a .word .now) (endsOf (a .pairs .now))
-accepted-at c = ends-admitted _ _ (passed-at c)
-
-admit-pairs-requires : tie.Need-admit-pairs-requires
-admit-pairs-requires c κs = search needs
+check-record-requires : tie.Need-check-record-requires
+check-record-requires c κs = search needs
 
 enum-told : tie.Need-enum-told
 enum-told c = search needs
@@ -34,17 +30,16 @@ empty-requires c κs = search needs
 returns : tie.Need-returns
 returns c =
     let at-match = c .before .before .before in
-    record {
-      answer = c .empty .ensures ∙ refused _ _ emptySummary (at-match .before .admit-pairs .ensures) (at-match .match .keys2) (c .before .number .ensures);
-    }
+    let says = at-match .before .check-record .ensures in
+    record { answer = c .empty .ensures ∙ refused-at-door _ _ _ emptySummary says (at-match .match .keys2) (c .before .number .ensures) }
 
-sum-up-requires : tie.Need-sum-up-requires
-sum-up-requires c κs = summable (accepted-at c)
+summarize-pairs-requires : tie.Need-summarize-pairs-requires
+summarize-pairs-requires c κs = accepted _ (passed-at (c .before))
 
 returns-2 : tie.Need-returns-2
-returns-2 c = record { answer = rw (passed-at (c .before)) (c .sum-up .ensures) }
+returns-2 c = record { answer = c .summarize-pairs .ensures .answer ∙ past-door _ _ _ emptySummary (passed-at (c .before .before)) }
 
 pub summarize-spec : {M : Type 1} → statement M
 summarize-spec =
     tie.close
-    (tie.spec admit-pairs-requires enum-told enum-told-2 number-requires empty-requires returns sum-up-requires returns-2)
+    (tie.spec check-record-requires enum-told enum-told-2 number-requires empty-requires returns summarize-pairs-requires returns-2)

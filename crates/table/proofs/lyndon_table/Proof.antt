@@ -1,22 +1,18 @@
--- No line is met, so the table fits into the buffer; or the call is refused.
+-- Refused at the door, or the room's promise past it.
 use borrow.Author.Needs.{needs}
-use mathlib.Core.Path.{_≡_, refl}
-use lib.ListN.{length}
-use borrow.Author.Tests.{ltb-false}
-use Rattle.words.specs.Words.{mostLetters}
+use mathlib.Core.Path.{_≡_}
+use Rattle.checks.specs.Lines.{tried, recordLines}
 use Rattle.checks.specs.declared.Checked.the-variants.{Passed}
-use Rattle.checks.specs.Lines.{tried}
-use Rattle.checks.proofs.LineLaws.{passed, unmet, filled-refused, filled-done}
-use Rattle.table.specs.Table.{tableLines}
+use Rattle.checks.proofs.LineLaws.{passed, filled-at-door, filled-past-door}
+use Rattle.checks.proofs.RecordLaws.{accepted}
 use Rattle.table.proofs.lyndon_table.Statement.{statement}
 use Rattle.table.proofs.lyndon_table.Tie as tie
 
-admitted-at : (c : tie.At-match-keys1) → let a = c .before .before .before .before .args in
-    tried (tableLines (a .word .now) (length (a .lengths .now))) ≡ Passed
-admitted-at c = passed _ (c .before .admit .ensures) (c .match .keys1)
+passed-at : (c : tie.At-match-keys1) → tried (recordLines (c .before .before .before .before .args .word .now)) ≡ Passed
+passed-at c = passed _ (c .before .check-record .ensures) (c .match .keys1)
 
-admit-requires : tie.Need-admit-requires
-admit-requires c κs = search needs
+check-record-requires : tie.Need-check-record-requires
+check-record-requires c κs = search needs
 
 enum-told : tie.Need-enum-told
 enum-told c = search needs
@@ -28,20 +24,18 @@ number-requires : tie.Need-number-requires
 number-requires c κs = search needs
 
 returns : tie.Need-returns
-returns c = filled-refused _ _ _ (c .before .before .before .admit .ensures) (c .before .before .match .keys2) (c .number .ensures)
+returns c = filled-at-door _ _ _ _ _ (c .before .before .before .check-record .ensures) (c .before .before .match .keys2) (c .number .ensures)
 
-fill-table-requires : tie.Need-fill-table-requires
-fill-table-requires c κs =
-    let u = unmet _ (admitted-at (c .before .before)) in
-    record { short = ltb-false mostLetters _ (u .1 .0); room = ltb-false _ _ (u .1 .1 .0) }
+tabulate-requires : tie.Need-tabulate-requires
+tabulate-requires c κs = accepted _ (passed-at (c .before .before))
 
 same-length : tie.Need-same-length
 same-length c = search needs
 
 returns-2 : tie.Need-returns-2
-returns-2 c = filled-done (admitted-at (c .before .before .before .before .before)) refl (c .before .before .fill-table .ensures)
+returns-2 c = let at-room = c .before .before in filled-past-door _ (passed-at (at-room .before .before .before)) (at-room .tabulate .ensures)
 
 pub lyndon-table-spec : {M : Type 1} → statement M
 lyndon-table-spec =
     tie.close
-    (tie.spec admit-requires enum-told enum-told-2 number-requires returns fill-table-requires same-length returns-2)
+    (tie.spec check-record-requires enum-told enum-told-2 number-requires returns tabulate-requires same-length returns-2)

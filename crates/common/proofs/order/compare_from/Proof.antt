@@ -2,7 +2,7 @@
 use borrow.Author.Needs.{needs}
 use Prim.Native.Nat.{_-_}
 use native.Mathlib.Omega.{arith}
-use Rattle.words.specs.orders.CommonLength.{Matched, matched-more}
+use Rattle.theory.specs.orders.CommonLength.{Matched, matched-more}
 use Rattle.common.proofs.OrderLaws.{prefix-ordered}
 use Rattle.common.proofs.order.compare_from.Statement.{statement}
 use Rattle.common.proofs.order.compare_from.Tie as tie
@@ -50,7 +50,8 @@ loop-again c =
     let test = c .before .before .before in
     let at = test .before in
     let least = at .before .shorter .ensures in
-    matched-more _ _ _ (at .loop .inv) (omega (arith, least, test .loop-test .taken)) (omega (arith, least, test .loop-test .taken)) (omega (arith, c .if1 .left))
+    let more = test .loop-test .taken in
+    matched-more _ _ _ (at .loop .inv) (omega (arith, least, more)) (omega (arith, least, more)) (omega (arith, c .if1 .left))
 
 prefix-order-requires : tie.Need-prefix-order-requires Inv-loop μ-loop
 prefix-order-requires c κs = search needs

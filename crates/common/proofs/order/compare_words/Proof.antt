@@ -4,9 +4,9 @@ use mathlib.Core.Path.{_≡_}
 use Prim.Native.Nat.{_+_, _-_, _%_, _≤_}
 use native.Mathlib.Omega.{arith}
 use lib.ListN.{length}
-use Rattle.words.specs.orders.CommonLength.{Matched, matched-none}
+use Rattle.theory.specs.orders.CommonLength.{Matched, matched-none}
 use Rattle.common.specs.Steps.{PartedAt}
-use Rattle.common.proofs.EightLaws.{equal-numbers, numbers-part}
+use Rattle.common.proofs.NumberLaws.{equal-numbers, numbers-part}
 use Rattle.common.proofs.order.compare_words.Statement.{statement}
 use Rattle.common.proofs.order.compare_words.Tie as tie
 
@@ -50,7 +50,8 @@ parts c =
     let turn = first .before in
     let known = turn .before .before .before in
     rw (c .equal-bytes .ensures, first .eight-at .ensures, c .before .before .eight-at2 .ensures)
-    (numbers-part _ _ _ 8 (eights turn .0) (eights turn .1) (λ t. known .before .shared-slice-known .given t .fits) (λ t. known .shared-slice-known2 .given t .fits)
+    (numbers-part _ _ _ 8 (eights turn .0) (eights turn .1)
+    (λ t. known .before .shared-slice-known .given t .fits) (λ t. known .shared-slice-known2 .given t .fits)
     (turn .before .loop .inv .0) (rw (first .eight-at .ensures, c .before .before .eight-at2 .ensures) at (c .before .if1 .taken)))
 
 cast-parted-at : tie.Need-cast-parted-at Inv-loop μ-loop

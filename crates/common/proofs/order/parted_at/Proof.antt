@@ -1,7 +1,7 @@
 use borrow.Author.Needs.{needs}
 use mir.Syntax.{w8}
 use mir.Facts.{toZ-ofZ}
-use Rattle.words.specs.orders.CommonLength.{agree-unique}
+use Rattle.theory.specs.orders.CommonLength.{agree-unique}
 use Rattle.common.proofs.OrderLaws.{letters-ordered}
 use Rattle.common.proofs.order.parted_at.Statement.{statement}
 use Rattle.common.proofs.order.parted_at.Tie as tie

@@ -1,34 +1,17 @@
--- The lines have passed, first 1 and 2 and then the others, so both starts lie in a range of the word; sign and number are those of the two remainders.
+-- Refused at the door, or the room's promise past it.
 use borrow.Author.Needs.{needs}
 use mathlib.Core.Path.{_≡_, _∙_}
 use Prim.Native.Nat.{ℕ}
-use native.Mathlib.Omega.{arith}
-use Rattle.words.specs.orders.WordSigns.{sign-parts}
-use Rattle.words.specs.orders.CommonWithin.{common-parts}
-use Rattle.common.proofs.OrderLaws.{sign-read}
+use Rattle.checks.specs.Lines.{tried, recordLines}
 use Rattle.checks.specs.declared.Checked.the-variants.{Passed}
-use Rattle.checks.specs.Lines.{tried}
-use Rattle.checks.proofs.LineLaws.{passed, refused, refused-first, passed-first}
+use Rattle.checks.proofs.LineLaws.{passed, past-door, refused-at-door}
+use Rattle.checks.proofs.RecordLaws.{accepted}
 use Rattle.compare.specs.declared.suffixes.Comparison.{Comparison}
-use Rattle.compare.specs.Compare.{compareLines}
-use Rattle.compare.proofs.ComparisonLaws.{Within, within}
 use Rattle.compare.proofs.suffixes.compare_suffixes.Statement.{statement}
 use Rattle.compare.proofs.suffixes.compare_suffixes.Tie as tie
 
--- the range and the starts were tried after lines 1 and 2
-tried-at : (c : tie.After-admit) → let a = c .before .before .before .before .before .args in
-    c .admit .result ≡ tried (compareLines (a .word .now) (a .first) (a .end) (a .start) (a .other))
-tried-at c =
-    let at-match = c .before .before in
-    passed-first _ _ (passed _ (at-match .before .check-record .ensures) (at-match .match .keys1)) (c .admit .ensures)
-
-passed-at : (c : tie.At-match2-keys1) → let a = c .before .before .before .before .before .before .args in
-    tried (compareLines (a .word .now) (a .first) (a .end) (a .start) (a .other)) ≡ Passed
-passed-at c = passed _ (tried-at (c .before)) (c .match2 .keys1)
-
-within-at : (c : tie.At-match2-keys1) → let a = c .before .before .before .before .before .before .args in
-    Within (a .word .now) (a .first) (a .end) (a .start) (a .other)
-within-at c = within _ _ _ _ _ (passed-at c)
+passed-at : (c : tie.At-match-keys1) → tried (recordLines (c .before .before .before .args .word .now)) ≡ Passed
+passed-at c = passed _ (c .before .check-record .ensures) (c .match .keys1)
 
 check-record-requires : tie.Need-check-record-requires
 check-record-requires c κs = search needs
@@ -44,60 +27,17 @@ number-requires c κs = search needs
 
 returns : tie.Need-returns
 returns c =
-    let is-refused = c .before .before .match .keys2 in
-    let first = refused-first _ _ (c .before .before .before .check-record .ensures) is-refused in
-    record { answer = refused _ _ (λ (n : ℕ). Comparison.Refused n) first is-refused (c .number .ensures) }
+    let at-match = c .before .before in
+    let told = at-match .before .check-record .ensures in
+    record { answer = refused-at-door _ _ _ (λ (n : ℕ). Comparison.Refused n) told (at-match .match .keys2) (c .number .ensures) }
 
-admit-requires : tie.Need-admit-requires
-admit-requires c κs = search needs
-
-enum-told-3 : tie.Need-enum-told-3
-enum-told-3 c = search needs
-
-enum-told-4 : tie.Need-enum-told-4
-enum-told-4 c = search needs
-
-number-requires-2 : tie.Need-number-requires-2
-number-requires-2 c κs = search needs
+compare-within-requires : tie.Need-compare-within-requires
+compare-within-requires c κs = accepted _ (passed-at (c .before))
 
 returns-2 : tie.Need-returns-2
-returns-2 c =
-    let at-match = c .before .before in
-    record { answer = refused _ _ (λ (n : ℕ). Comparison.Refused n) (tried-at (at-match .before)) (at-match .match2 .keys2) (c .number2 .ensures) }
-
-sub-compare-words : tie.Need-sub-compare-words
-sub-compare-words c = omega (arith, within-at (c .before))
-
-part-compare-words-start : tie.Need-part-compare-words-start
-part-compare-words-start c = omega (arith, within-at (c .before))
-
-part-compare-words-end : tie.Need-part-compare-words-end
-part-compare-words-end c = omega (arith, within-at (c .before))
-
-sub-compare-words-2 : tie.Need-sub-compare-words-2
-sub-compare-words-2 c = omega (arith, within-at (c .before .before))
-
-part-compare-words-start-2 : tie.Need-part-compare-words-start-2
-part-compare-words-start-2 c = omega (arith, within-at (c .before .before))
-
-part-compare-words-end-2 : tie.Need-part-compare-words-end-2
-part-compare-words-end-2 c = omega (arith, within-at (c .before .before))
-
-compare-words-requires : tie.Need-compare-words-requires
-compare-words-requires c κs = search needs
-
-returns-3 : tie.Need-returns-3
-returns-3 c =
-    let at-match = c .before .before .before .before .before in
-    let h = within-at at-match in
-    let order = c .before .compare-words .ensures in
-    let common-is = order .common-is ∙ common-parts _ _ _ _ _ (h .start-from) (h .other-from) in
-    let sign-is = sign-read (order .sign-is) ∙ sign-parts _ _ _ _ _ (h .inside) (h .start-from) (h .start-below) (h .other-from) (h .other-below) (order .sign-is) in
-    record { answer = rw (passed-at at-match, sign-is, common-is) }
+returns-2 c = record { answer = c .compare-within .ensures .answer ∙ past-door _ _ _ (λ (n : ℕ). Comparison.Refused n) (passed-at (c .before .before)) }
 
 pub compare-suffixes-spec : {M : Type 1} → statement M
 compare-suffixes-spec =
     tie.close
-    (tie.spec check-record-requires enum-told enum-told-2 number-requires returns admit-requires enum-told-3 enum-told-4 number-requires-2
-    returns-2 sub-compare-words part-compare-words-start part-compare-words-end sub-compare-words-2 part-compare-words-start-2
-    part-compare-words-end-2 compare-words-requires returns-3)
+    (tie.spec check-record-requires enum-told enum-told-2 number-requires returns compare-within-requires returns-2)

@@ -1,0 +1,4 @@
+pub mod ConditionLaws
+pub mod EndsLaws
+pub mod RecordEndsLaws
+pub mod MarkLaws

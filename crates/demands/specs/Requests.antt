@@ -1,0 +1,49 @@
+-- DEFINITIONS. What requests 105 and 107 promise of their calls: the answers for the records of a card, and the list of repetitions.
+use mathlib.Core.Path.{_≡_}
+use mathlib.Core.List.{List, [], _∷_, _++_, List·Memᴰ}
+use Prim.Native.Nat.{ℕ, _*_, _≤_, _<_}
+use lib.ListN.{length, take, drop}
+use Rattle.words.specs.Runs.{Triple}
+use Rattle.theory.specs.RunStatements.{Earlier, IsSeparatedRun, Rising}
+use Rattle.buffers.specs.Buffers.{written}
+use Rattle.checks.specs.declared.Counted.{Counted}
+use Rattle.batch.specs.declared.Batch.{Batch}
+use Rattle.batch.specs.Batch.{recordsFrom, entriesUsed, placesOf}
+use Rattle.batch.specs.BatchStatements.{Left}
+use Rattle.inserting.specs.Entries.{entriesOfRuns}
+use Rattle.demands.specs.Calls.{Calls}
+
+-- ---- request 105, the answers for the records of a card that is not refused
+
+-- "Each record's answer, refusal included, is the one a single call gives with what is left of the result buffer. A refused record uses none of it, and the next
+-- one is still tried.": the calls one after another, each with the buffers as the one before left them
+pub data Singly (c : Calls) : (records : List (List ℕ)) (work left : List ℕ) (answers : List Counted) (work′ left′ : List ℕ) → Type 0 where
+  none : {work left : List ℕ} → Singly c [] work left [] work left
+  next : {w work left work₁ left₁ work′ left′ : List ℕ} {ws : List (List ℕ)} {a : Counted} {answers : List Counted} → c .PieceCut w work left a work₁ left₁
+      → Singly c ws work₁ (drop (entriesUsed a) left₁) answers work′ left′ → Singly c (w ∷ ws) work left (a ∷ answers) work′ (take (entriesUsed a) left₁ ++ left′)
+
+pub record CardAnswered (c : Calls) (bytes es work pairs : List ℕ) (r : Batch) (work′ pairs′ : List ℕ) : Type 0 where
+  pub answers : List Counted
+  -- "The answers come in the card's order, in 64 places; those past the last record hold a result of 0."
+  pub places : r .places ≡ placesOf answers
+  pub singly : Singly c (recordsFrom 0 es bytes) work pairs answers work′ pairs′
+  -- the pairs without gaps, and the work buffer's zeros up to 3 times the longest record that was cut or refused by 4
+  pub left : Left (recordsFrom 0 es bytes) answers work pairs work′ pairs′
+  -- two entries a byte are enough
+  pub enough : 2 * length bytes ≤ length pairs → (a : Counted) → List·Memᴰ a answers → ¬ (a ≡ Counted.Refused 4)
+
+-- ---- request 107, the answer for a record w that is not refused
+
+pub record RepetitionsListed (w out : List ℕ) (r : Counted) (out′ : List ℕ) : Type 0 where
+  pub listed : List Triple
+  -- "List every maximal repetition: first place, end and period. .. Marks belong to none and end their neighbours."
+  pub sound : (t : Triple) → List·Memᴰ t listed → IsSeparatedRun w t
+  pub complete : (t : Triple) → IsSeparatedRun w t → List·Memᴰ t listed
+  -- "Each is listed once, by first place and then by period."
+  pub in-order : Rising Earlier listed
+  -- "a record always has fewer of them than bytes, as the published "Runs" theorem says"
+  pub fewer : length listed < length w
+  -- "The call answers with the number of repetitions"
+  pub count : r ≡ Counted.Count (length listed)
+  -- "Each fills three 16-bit entries in that order, from entry 0, and what a result buffer holds past the answer stays"
+  pub entries : out′ ≡ written (entriesOfRuns listed) out

@@ -1,0 +1,2 @@
+pub mod Eights
+pub mod Examples

@@ -1,0 +1,4 @@
+pub mod EntryLaws
+pub mod JoinLaws
+pub mod MergeLaws
+pub mod FillLaws

@@ -1,0 +1,1 @@
+//! What is said of the words' factorizations and runs (Statements, SeparatedStatements, RunStatements), and that it holds. Everything is in specs/.
