@@ -1,4 +1,1 @@
-pub mod FirstCuts
-pub mod NoteLaws
-pub mod Finding
-pub mod Gathering
+pub mod GatherLaws

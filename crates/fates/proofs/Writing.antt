@@ -18,8 +18,8 @@ use Rattle.theory.specs.breaks.BreakSteps.{keptEnds}
 use Rattle.theory.specs.stretches.CutSteps.{besideSeparator, unlessBeside}
 use Rattle.theory.specs.stretches.Cuts.{Cuts, record-ends, cuts-first, FirstOf, CutAt, breaksAmong, record-breaks}
 use Rattle.breaks.specs.declared.Found.{Found}
-use Rattle.breaks.specs.Cutting.{notesOf, Noted}
-use Rattle.breaks.proofs.NoteLaws.{few-noted, noted-cut, note-at}
+use Rattle.cuts.specs.Cutting.{notesOf, Noted}
+use Rattle.cuts.proofs.NoteLaws.{few-noted, noted-cut, note-at}
 use Rattle.fates.specs.Entries.{breakEntries, entriesOfBreaks}
 use Rattle.fates.specs.Fates.{Near, breakBy, cutEntries, WriteRoom, BreakWritten, Writable}
 use Rattle.fates.proofs.EntryLaws.{length-entries}

@@ -11,7 +11,7 @@ use Rattle.theory.specs.stretches.Cuts.{breaksAmong}
 use Rattle.words.specs.declared.Fate.{Fate}
 use Rattle.words.specs.declared.Fate.the-variants.{Kept, Joined}
 use Rattle.words.specs.declared.Break.{Break}
-use Rattle.breaks.specs.Cutting.{CutRoom, Noted}
+use Rattle.cuts.specs.Cutting.{CutRoom, Noted}
 use Rattle.breaks.specs.declared.Found.{Found}
 use Rattle.fates.specs.Entries.{entriesOfBreaks}
 

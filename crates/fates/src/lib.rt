@@ -68,7 +68,7 @@ fn write_if_break(
     requires { ⌜ Near (now word) place begun border end × WriteRoom (now word) (breakBy (now word) place begun border end) (now buffer) at ⌝ }
     ensures { λ r. ⌜ BreakWritten (now (word .entry)) (breakBy (now (word .entry)) place begun border end) (now (buffer .entry)) at r (now (buffer .exit)) ⌝ }
 {
-    if breaks::beside_separator(word, place as usize) {
+    if cuts::beside_separator(word, place as usize) {
         return at;
     }
     let b = break_of(word, place, begun, border, end);

@@ -39,7 +39,8 @@ use Rattle.checks.proofs.LineLaws.{
 }
 use Rattle.checks.proofs.RecordLaws.{enough}
 use Rattle.breaks.specs.declared.Found.{Found}
-use Rattle.breaks.specs.Cutting.{CutRoom, CutFound}
+use Rattle.cuts.specs.Cutting.{CutRoom}
+use Rattle.breaks.specs.Gathering.{CutFound}
 use Rattle.pairs.specs.Pairing.{PairsRoom}
 use Rattle.icfl.specs.Icfl.{icflLines, workAfter, IcflDone}
 

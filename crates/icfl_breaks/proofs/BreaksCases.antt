@@ -14,7 +14,7 @@ use Rattle.checks.specs.declared.Checked.{Checked}
 use Rattle.checks.specs.declared.Checked.the-variants.{Passed}
 use Rattle.checks.proofs.LineLaws.{IsRefused, refused, refused-first, passed-first, past-door, refused-at-door, unmet}
 use Rattle.breaks.specs.declared.Found.{Found}
-use Rattle.breaks.specs.Cutting.{CutFound}
+use Rattle.breaks.specs.Gathering.{CutFound}
 use Rattle.fates.specs.Entries.{entriesOfBreaks}
 use Rattle.icfl.specs.Icfl.{workAfter}
 use Rattle.icfl_breaks.specs.IcflBreaks.{breaksLines, BreaksDone}

@@ -1,6 +1,6 @@
 -- The forward pass and the backward pass.
 use borrow.Author.Needs.{needs}
-use Rattle.breaks.proofs.Gathering.{cut-found}
+use Rattle.breaks.proofs.GatherLaws.{cut-found}
 use Rattle.breaks.proofs.find_ends.Statement.{statement}
 use Rattle.breaks.proofs.find_ends.Tie as tie
 

@@ -4,8 +4,8 @@ use Prim.Native.Nat.{_+_, _-_, _*_, _≤_, _<_}
 use native.Mathlib.Omega.{arith}
 use lib.ListN.{length, set, length-set}
 use Rattle.words.specs.Words.{mostLetters}
-use Rattle.breaks.specs.Cutting.{CutRoom}
-use Rattle.breaks.proofs.Gathering.{Gathering, started-room, gather-starts, few, top-inside, note-inside, top-positive, joined-on, kept-on, gather-ends}
+use Rattle.cuts.specs.Cutting.{CutRoom}
+use Rattle.breaks.proofs.GatherLaws.{Gathering, started-room, gather-starts, few, top-inside, note-inside, top-positive, joined-on, kept-on, gather-ends}
 use Rattle.breaks.proofs.gather_ends.Statement.{statement}
 use Rattle.breaks.proofs.gather_ends.Tie as tie
 

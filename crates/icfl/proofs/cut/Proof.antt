@@ -10,7 +10,7 @@ use Rattle.checks.specs.Lines.{tried, resultLine}
 use Rattle.checks.specs.declared.Checked.the-variants.{Passed}
 use Rattle.checks.proofs.LineLaws.{passed}
 use Rattle.checks.proofs.RecordLaws.{enough}
-use Rattle.breaks.specs.Cutting.{CutRoom}
+use Rattle.cuts.specs.Cutting.{CutRoom}
 use Rattle.icfl.proofs.IcflCases.{workLines, cut-room, pairs-room, work-refused, pairs-refused, pairs-written}
 use Rattle.icfl.proofs.cut.Statement.{statement}
 use Rattle.icfl.proofs.cut.Tie as tie

@@ -8,8 +8,8 @@ use Rattle.words.specs.Words.{mostLetters}
 use Rattle.checks.specs.Lines.{tried}
 use Rattle.checks.specs.declared.Checked.the-variants.{Passed}
 use Rattle.checks.proofs.LineLaws.{both, passed}
-use Rattle.breaks.specs.Cutting.{CutRoom}
-use Rattle.breaks.proofs.NoteLaws.{breaks-fewer}
+use Rattle.cuts.specs.Cutting.{CutRoom}
+use Rattle.breaks.proofs.GatherLaws.{breaks-fewer}
 use Rattle.icfl.proofs.IcflCases.{workLines, cut-room, pairs-room}
 use Rattle.icfl_breaks.proofs.BreaksCases.{roomLines, rooms, breaks-work-refused, breaks-refused, breaks-written}
 use Rattle.icfl_breaks.proofs.cut_with_breaks.Statement.{statement}

@@ -1,17 +1,15 @@
--- What finding the cuts and gathering the ends ask and promise. No call's promise cites this file.
+-- What finding the cuts asks and promises. No call's promise cites this file.
 use mathlib.Core.Path.{_≡_}
 use mathlib.Core.List.{List, [], _∷_}
 use Prim.Native.Nat.{ℕ, _*_, _≤_, _<_}
 use lib.ListN.{length, take, drop}
-use lib.Seq.{slice}
 use Rattle.words.specs.Words.{mostLetters}
-use Rattle.words.specs.Separated.{separatedIcflEnds, separatedBreaks}
+use Rattle.words.specs.Separated.{separatedBreaks}
 use Rattle.words.specs.declared.Break.{Break}
 use Rattle.theory.specs.stretches.CutSteps.{CutBy, Uncut}
 use Rattle.theory.specs.stretches.Cuts.{Cuts}
-use Rattle.breaks.specs.declared.Cut.{Cut}
-use Rattle.breaks.specs.declared.Counts.{Counts}
-use Rattle.breaks.specs.declared.Found.{Found}
+use Rattle.cuts.specs.declared.Cut.{Cut}
+use Rattle.cuts.specs.declared.Counts.{Counts}
 
 -- a record that was accepted, and work entries for it
 pub record CutRoom (w work : List ℕ) : Type 0 where
@@ -45,19 +43,5 @@ pub record Noted (w work : List ℕ) (count : ℕ) : Type 0 where
 
 pub record CutsFound (w work : List ℕ) (r : Counts) (work′ : List ℕ) : Type 0 where
   pub noted : Noted w work′ (r .cuts)
-  pub breaks : r .breaks ≡ length (separatedBreaks w)
-  pub kept : drop (3 * length w) work′ ≡ drop (3 * length w) work
-
--- the ends stand in front of the notes
-pub record EndsGathered (w work : List ℕ) (first : ℕ) (work′ : List ℕ) : Type 0 where
-  pub inside : first < length w
-  pub ends : slice first (length w) work′ ≡ separatedIcflEnds w
-  pub kept : drop (length w) work′ ≡ drop (length w) work
-
-pub record CutFound (w work : List ℕ) (r : Found) (work′ : List ℕ) : Type 0 where
-  pub inside : r .first < length w
-  pub ends : slice (r .first) (length w) work′ ≡ separatedIcflEnds w
-  pub count : ℕ
-  pub noted : Noted w work′ count
   pub breaks : r .breaks ≡ length (separatedBreaks w)
   pub kept : drop (3 * length w) work′ ≡ drop (3 * length w) work

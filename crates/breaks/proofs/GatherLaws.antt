@@ -11,10 +11,12 @@ use Rattle.theory.specs.Statements.{keptPlaces}
 use Rattle.words.specs.declared.Fate.{Fate}
 use Rattle.words.specs.declared.Break.{Break}
 use Rattle.theory.specs.breaks.BreakSteps.{Ended, kept, joined, keptEnds}
-use Rattle.theory.specs.stretches.Cuts.{Cuts, record-ends, CutAt}
-use Rattle.breaks.specs.declared.Counts.{Counts}
-use Rattle.breaks.specs.Cutting.{CutRoom, notesOf, Noted, CutsFound, EndsGathered, CutFound}
-use Rattle.breaks.proofs.NoteLaws.{noted-kept, few-noted, noted-cut, note-at}
+use Rattle.theory.specs.stretches.Cuts.{Cuts, record-ends, CutAt, cuts-few, record-breaks}
+use Rattle.cuts.specs.declared.Counts.{Counts}
+use Rattle.cuts.specs.Cutting.{CutRoom, notesOf, Noted, CutsFound}
+use Rattle.cuts.proofs.NoteLaws.{noted-kept, among-few, few-noted, noted-cut, note-at}
+use Rattle.breaks.specs.declared.Found.{Found}
+use Rattle.breaks.specs.Gathering.{EndsGathered, CutFound}
 
 -- ---- a part of the buffer that ends at n, one entry longer
 
@@ -191,3 +193,9 @@ cut-found w work work₁ work₂ first r b e = record {
   breaks = b .breaks;
   kept = kept-past (length w) (3 * length w) work₂ work₁ (omega arith) (e .kept) ∙ b .kept;
 }
+
+-- some of the cuts are breaks, and there are fewer cuts than letters
+pub breaks-fewer : {w work work′ : List ℕ} {r : Found} → CutFound w work r work′ → r .breaks < length w
+breaks-fewer {w} x =
+    let cuts = x .noted .cuts in
+    omega (arith, x .breaks, ap length (record-breaks (x .noted .walk)), among-few w cuts, cuts-few (x .noted .walk))

@@ -4,9 +4,9 @@ use Prim.Native.Nat.{_<_}
 use native.Mathlib.Omega.{arith}
 use lib.ListN.{getD}
 use Rattle.words.specs.Separated.{separator}
-use Rattle.breaks.proofs.FirstCuts.{uncut-separator, cut-separator, uncut-letter, cut-letter}
-use Rattle.breaks.proofs.first_cut.Statement.{statement}
-use Rattle.breaks.proofs.first_cut.Tie as tie
+use Rattle.cuts.proofs.FirstCuts.{uncut-separator, cut-separator, uncut-letter, cut-letter}
+use Rattle.cuts.proofs.first_cut.Statement.{statement}
+use Rattle.cuts.proofs.first_cut.Tie as tie
 
 -- the first letter is a byte, and no separator
 below-at : (c : tie.Else1) → getD (c .before .before .before .before .args .word .now) 0 0 < separator

@@ -12,9 +12,9 @@ use Rattle.words.specs.declared.Break.{Break}
 use Rattle.theory.specs.stretches.CutSteps.{besideSeparator, unlessBeside, cutAt, CutBy}
 use Rattle.theory.specs.stretches.Cuts.{Cuts, last, cut, breaksAmong, record-breaks}
 use Rattle.extension.specs.Extension.{TestRoom}
-use Rattle.breaks.specs.declared.Cut.{Cut}
-use Rattle.breaks.specs.Cutting.{CutRoom, FirstCut, notesOf, CutsFound}
-use Rattle.breaks.proofs.NoteLaws.{among-few, notes-append}
+use Rattle.cuts.specs.declared.Cut.{Cut}
+use Rattle.cuts.specs.Cutting.{CutRoom, FirstCut, notesOf, CutsFound}
+use Rattle.cuts.proofs.NoteLaws.{among-few, notes-append}
 
 -- ---- a note
 

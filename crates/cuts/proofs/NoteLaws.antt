@@ -10,8 +10,7 @@ use lib.Seq.{getD-take, getD-drop}
 use Rattle.words.specs.declared.Break.{Break}
 use Rattle.theory.specs.stretches.CutSteps.{besideSeparator, unlessBeside}
 use Rattle.theory.specs.stretches.Cuts.{cuts-few, CutAt, cut-at, breaksAmong, record-breaks}
-use Rattle.breaks.specs.declared.Found.{Found}
-use Rattle.breaks.specs.Cutting.{notesOf, Noted, CutFound}
+use Rattle.cuts.specs.Cutting.{notesOf, Noted}
 
 pub noted-kept : {w work work′ : List ℕ} {count : ℕ} → drop (length w) work′ ≡ drop (length w) work → Noted w work count → Noted w work′ count
 noted-kept e x = record { cuts = x .cuts; walk = x .walk; number = x .number; notes = rw e (x .notes) }
@@ -30,11 +29,6 @@ among-few w (b ∷ bs) = go (besideSeparator w (b .place)) (among-few w bs)
     go : (t : Bool) → length (breaksAmong w bs) ≤ length bs → length (unlessBeside t b (breaksAmong w bs)) ≤ length (b ∷ bs)
     go true h = omega arith
     go false h = omega arith
-
-pub breaks-fewer : {w work work′ : List ℕ} {r : Found} → CutFound w work r work′ → r .breaks < length w
-breaks-fewer {w} x =
-    let cuts = x .noted .cuts in
-    omega (arith, x .breaks, ap length (record-breaks (x .noted .walk)), among-few w cuts, cuts-few (x .noted .walk))
 
 drop-notes : (k : ℕ) (bs : List Break) → drop (2 * k) (notesOf bs) ≡ notesOf (drop k bs)
 unfolding notesOf

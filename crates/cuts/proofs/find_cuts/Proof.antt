@@ -7,9 +7,9 @@ use lib.ListN.{length, drop, length-set}
 use borrow.Author.Tests.{not-true, not-false}
 use Rattle.words.specs.Words.{mostLetters}
 use Rattle.theory.specs.stretches.CutSteps.{CutBy}
-use Rattle.breaks.proofs.Finding.{Finding, find-starts, breaks-few, find-fits, find-ends, cut-by, cut-inside, find-beside, find-break}
-use Rattle.breaks.proofs.find_cuts.Statement.{statement}
-use Rattle.breaks.proofs.find_cuts.Tie as tie
+use Rattle.cuts.proofs.Finding.{Finding, find-starts, breaks-few, find-fits, find-ends, cut-by, cut-inside, find-beside, find-break}
+use Rattle.cuts.proofs.find_cuts.Statement.{statement}
+use Rattle.cuts.proofs.find_cuts.Tie as tie
 
 abbrev Inv-loop : tie.InvT-loop
 Inv-loop word work₀ n from₀ cuts₀ breaks₀ work from cuts breaks = Finding word work₀ work n from cuts breaks

@@ -12,8 +12,8 @@ use Rattle.extension.specs.declared.Extension.{Extension}
 use Rattle.extension.specs.Extension.{Verdict}
 use Rattle.extension.proofs.Extension.{the-type}
 use Rattle.extension.proofs.VerdictLaws.{Fails, fails-told, holds-told}
-use Rattle.breaks.specs.declared.Cut.{Cut}
-use Rattle.breaks.specs.Cutting.{FirstCut}
+use Rattle.cuts.specs.declared.Cut.{Cut}
+use Rattle.cuts.specs.Cutting.{FirstCut}
 
 -- ---- a separator
 

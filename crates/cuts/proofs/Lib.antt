@@ -1,0 +1,3 @@
+pub mod NoteLaws
+pub mod FirstCuts
+pub mod Finding
