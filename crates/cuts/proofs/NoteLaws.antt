@@ -9,7 +9,7 @@ use lib.ListN.{length, drop, getD}
 use lib.Seq.{getD-take, getD-drop}
 use Rattle.words.specs.declared.Break.{Break}
 use Rattle.theory.specs.stretches.CutSteps.{besideSeparator, unlessBeside}
-use Rattle.theory.specs.stretches.Cuts.{cuts-few, CutAt, cut-at, breaksAmong, record-breaks}
+use Rattle.theory.specs.stretches.Cuts.{cuts-few, CutAt, cut-at, breaksAmong}
 use Rattle.cuts.specs.Cutting.{notesOf, Noted}
 
 pub noted-kept : {w work work′ : List ℕ} {count : ℕ} → drop (length w) work′ ≡ drop (length w) work → Noted w work count → Noted w work′ count

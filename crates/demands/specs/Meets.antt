@@ -1,6 +1,6 @@
 -- Doorways that let in just the records of 1 to so many bytes (Sound), calls whose answers meet the promises of the calls behind a door (Meets), and calls that
--- give an answer for all arguments (Total). The record's lines are such a doorway, and the library's calls are such calls: record-door, library-meets,
--- library-total; the exported functions: ExportedMeets.
+-- give an answer for all arguments (Total). The record's lines are such a doorway (record-door), and the calls behind a door are such calls
+-- (behind-meets, behind-total); the exported functions: ExportedMeets.
 use mathlib.Core.Path.{_≡_, refl}
 use mathlib.Core.Bool.{true}
 use mathlib.Core.List.{List}

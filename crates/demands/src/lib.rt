@@ -1,1 +1,2 @@
-//! The customer's three demands, stated and proved about the calls' promises. Everything is in specs/: Demands has the statements.
+//! The customer's three demands, stated and proved about the calls' promises. Everything is in specs/; its Lib says what
+//! stands where.

@@ -1,4 +1,4 @@
--- DEFINITIONS. The scan's state, and what its functions ask and promise. What a state means is Scanned of the theory.
+-- What the scan's functions ask and promise of its state; what a state means is Scanned of the theory. No call's promise cites this file.
 use mathlib.Core.Bool.{true, false}
 use mathlib.Core.List.{List}
 use Prim.Native.Nat.{ℕ, _+_, _≤_, _<_}

@@ -1,5 +1,5 @@
 -- DEFINITIONS. The two factorizations of a word and the Lyndon table, as functions that compute. The recursions on what
--- follows a factor have a bound for their depth as first argument; the length is enough (uniqueness/IcflUnfold, cfl_in/CflInUnfold).
+-- follows a factor have a bound for their depth as first argument; the length is enough (IcflUnfold and CflInUnfold of the theory).
 use mathlib.Core.List.{List, [], _∷_, _++_}
 use mathlib.Core.Bool.{Bool, true, false, not, _&&_}
 use Prim.Native.Nat.{ℕ, zero, suc, _+_, _-_, _*_}

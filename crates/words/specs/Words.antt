@@ -1,5 +1,5 @@
 -- DEFINITIONS. Words are lists of numbers: how two of them compare, and the two kinds of words that a word is cut into.
--- Orders and kinds are paper 01's sentences; the tests compute, and decide them (orders/OrderTests, lyndon/WordTests).
+-- Orders and kinds are paper 01's sentences; the tests compute, and decide them (OrderTests and WordTests of the theory).
 use mathlib.Core.Path.{_≡_}
 use mathlib.Core.List.{List, [], _∷_, _++_}
 use mathlib.Core.Bool.{Bool, true, false}
