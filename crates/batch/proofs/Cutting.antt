@@ -14,13 +14,13 @@ use Rattle.theory.specs.stretches.Factors.{separated-icfl-ends-rise}
 use Rattle.theory.specs.stretches.RecordPairs.{pairs-entries}
 use Rattle.buffers.proofs.PartLaws.{part, part-is, rest, rest-is, rest-back}
 use Rattle.conditions.specs.Conditions.{mostRecords}
-use Rattle.checks.specs.Lines.{Line, Door, tried, recordLines}
+use Rattle.checks.specs.Lines.{Line, Door, tried}
+use Rattle.checks.specs.Doors.{Guards}
 use Rattle.checks.specs.Answers.{numberOf}
 use Rattle.checks.specs.declared.Checked.{Checked}
 use Rattle.checks.specs.declared.Checked.the-variants.{Passed}
 use Rattle.checks.specs.declared.Counted.{Counted}
 use Rattle.checks.proofs.LineLaws.{IsRefused, refused, both-passed, unmet, filled-counted}
-use Rattle.checks.proofs.RecordLaws.{accepted}
 use Rattle.conditions.proofs.RecordEndsLaws.{Climbs, climbs-head, climbs-tail, climbs-most, listed}
 use Rattle.icfl.specs.Icfl.{icflLines, IcflDone}
 use Rattle.icfl.proofs.IcflCases.{icfl-filled}
@@ -64,11 +64,12 @@ used-fits {w} {left = left} {a = Counted.Count n} d =
     omega (arith, f .1, ap length (f .2), length-append (separatedPairs w) (drop (length (separatedPairs w)) left), pairs-entries w)
 used-fits {a = Counted.Refused number} d = omega arith
 
-pub used-few : {w work left : List ℕ} {a : Counted} {work₁ left₁ : List ℕ} → IcflDone (recordLines w) w work left a work₁ left₁ → entriesUsed a ≤ 2 * mostLetters
-used-few {w} {work} {left} {a = Counted.Count n} d =
+pub used-few : {door : List Line} {w work left : List ℕ} {a : Counted} {work₁ left₁ : List ℕ} → Guards door w → IcflDone door w work left a work₁ left₁
+    → entriesUsed a ≤ 2 * mostLetters
+used-few {door} {w} {work} {left} {a = Counted.Count n} g d =
     let f = filled-counted (icfl-filled d) in
-    omega (arith, f .1, accepted w (both-passed (recordLines w) (icflLines w (length work) (length left)) (f .0) .0) .short, rises-few (separated-icfl-ends-rise w))
-used-few {a = Counted.Refused number} d = omega arith
+    omega (arith, f .1, g (both-passed door (icflLines w (length work) (length left)) (f .0) .0) .short, rises-few (separated-icfl-ends-rise w))
+used-few {a = Counted.Refused number} g d = omega arith
 
 pub record Cutting (door : Door) (bytes es work₀ pairs₀ work pairs : List ℕ) (r : Batch) (from used i : ℕ) : Type 0 where
   pub answers : List Counted

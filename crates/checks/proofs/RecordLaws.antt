@@ -7,9 +7,11 @@ use lib.ListN.{length}
 use lib.Dec.{ltb}
 use borrow.Author.Tests.{eqb-false, ltb-false, ne-eqb, le-ltb}
 use Rattle.words.specs.Words.{mostLetters}
+use Rattle.checks.specs.declared.Checked.{Checked}
 use Rattle.checks.specs.declared.Checked.the-variants.{Passed}
-use Rattle.checks.specs.Lines.{_when_, tried, recordLines, Accepted}
-use Rattle.checks.proofs.LineLaws.{unmet, all-pass}
+use Rattle.checks.specs.Lines.{Line, _when_, tried, recordLines, Accepted}
+use Rattle.checks.specs.Doors.{SaidAt}
+use Rattle.checks.proofs.LineLaws.{IsPassed, passed, unmet, all-pass}
 
 pub accepted : (w : List ℕ) → tried (recordLines w) ≡ Passed → Accepted w
 accepted w e =
@@ -18,6 +20,10 @@ accepted w e =
 
 pub record-passes : (w : List ℕ) → Accepted w → tried (recordLines w) ≡ Passed
 record-passes w a = all-pass (recordLines w) (ne-eqb (length w) 0 (λ z. omega (arith, a .nonempty)), (le-ltb mostLetters (length w) (a .short), search))
+
+-- a record that is let in at a door
+pub let-in : {door : List Line} {w : List ℕ} {k : Checked} → SaidAt door w k → IsPassed k → Accepted w
+let-in {door} s h = s .guards (passed door (s .says) h)
 
 pub enough : (number entries needed : ℕ) → tried (number when ltb entries needed ∷ []) ≡ Passed → needed ≤ entries
 enough number entries needed e = ltb-false entries needed (unmet (number when ltb entries needed ∷ []) e .0)

@@ -7,6 +7,7 @@ ghost use mathlib.Core.Path.{_≡_};
 ghost use mathlib.Core.List.{[], _∷_};
 ghost use Rattle.checks.specs.Lines.{_when_, tried};
 ghost use Rattle.checks.specs.Lines.{recordLines, workLine, resultLine, rangeLine, startLine, pairsLine, numberLine, markLine, recordEndsLine};
+ghost use Rattle.checks.specs.Doors.{SaidAt};
 ghost use Rattle.checks.specs.Answers.{numberOf, firstOf};
 
 /// The most letters that a record may have.
@@ -58,7 +59,7 @@ pub enum Counted {
 
 /// Lines 1 and 2: the record's length.
 pub fn check_record(word: &[u8]) -> Checked
-    ensures { λ r. ⌜ r ≡ tried (recordLines (now (word .entry))) ⌝ }
+    ensures { λ r. ⌜ SaidAt (recordLines (now (word .entry))) (now (word .entry)) r ⌝ }
 {
     let n = word.len();
     Checked::when(1, n == 0).then(Checked::when(2, MOST < n))

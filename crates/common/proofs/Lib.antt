@@ -1,4 +1,3 @@
 pub mod NumberLaws
-pub mod OrderLaws
 pub mod BeforeLaws
 pub mod InOrderLaws

@@ -11,7 +11,7 @@ use Rattle.words.specs.Words.{commonLength}
 use Rattle.theory.specs.orders.CommonLength.{Matched, Agree, agree-same, common-agree}
 use Rattle.eights.specs.Eights.{littleEndian, bytesOf}
 use Rattle.eights.proofs.EightLaws.{Bytes, part-length, bytes-of-part}
-use Rattle.common.specs.Steps.{PartedAt}
+use Rattle.letters.specs.Steps.{PartedAt}
 
 -- the letters of a part
 letter-in : (l n : ℕ) (x : List ℕ) (t : ℕ) → t < n → getD (slice l (l + n) x) t 0 ≡ getD x (l + t) 0

@@ -1,6 +1,6 @@
 //! Letters and words in either order of the letters: the natural one, in which the smaller letter comes first, or the inverse one, in which the larger one
 //! does.
-use super::order::compare_words;
+use super::compare_words;
 ghost use Rattle.words.specs.Words.{_≺_};
 ghost use Rattle.theory.specs.orders.Decisions.{Decides};
 ghost use Rattle.common.specs.Orders.{inOrder, Precedes, BothBegin};

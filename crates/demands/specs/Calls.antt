@@ -27,7 +27,7 @@ use Rattle.summary.specs.declared.Summary.{Summary}
 use Rattle.summary.specs.Summary.{Summarized}
 use Rattle.numbers.specs.declared.Replies.{Replies}
 use Rattle.numbers.specs.Numbers.{testNumbers, countNumbers, breaksNumbers, batchNumbers, comparisonNumbers}
-use Rattle.exports.specs.Exports.{Gives, factorNumbers}
+use Rattle.exports.specs.Exports.{exportDoor, Gives, factorNumbers}
 
 -- ---- the calls: which answers each may give, with which contents of the lent buffers afterwards
 
@@ -103,4 +103,4 @@ exportedBehind door =
     }
 
 abbrev pub exported : Calls
-exported = exportedBehind recordLines
+exported = exportedBehind exportDoor

@@ -13,7 +13,7 @@ use Rattle.words.specs.Pairs.{pairsFrom, separatedPairs, endsOf}
 use Rattle.words.specs.Examples.{a, b, c}
 use Rattle.theory.specs.stretches.RecordPairs.{pairs-ends-from, pairs-number, pairs-ends}
 use Rattle.buffers.specs.Buffers.{cleared, written}
-use Rattle.checks.specs.Lines.{Line, tried, _unless_then_, recordLines, workLine, resultLine}
+use Rattle.checks.specs.Lines.{Line, tried, _unless_then_, workLine, resultLine}
 use Rattle.checks.specs.Answers.{Filled}
 use Rattle.checks.specs.declared.Checked.the-variants.{Passed}
 use Rattle.checks.specs.declared.Counted.{Counted}
@@ -27,7 +27,7 @@ use Rattle.demands.specs.OneCall.{Cut, cutter}
 -- ---- cutters that are right but for the pairs, which are f w
 
 abbrev pub linesAt : (List ℕ → List ℕ) → List ℕ → ℕ → ℕ → List Line
-linesAt f w work entries = recordLines w ++ workLine work (3 * length w) ∷ resultLine entries (length (f w)) ∷ []
+linesAt f w work entries = recordDoor .door w ++ workLine work (3 * length w) ∷ resultLine entries (length (f w)) ∷ []
 
 pub record CutsAt (f : List ℕ → List ℕ) (w work pairs : List ℕ) (r : Counted) (work′ pairs′ : List ℕ) : Type 0 where
   pub filled : Filled (linesAt f w (length work) (length pairs)) (length (endsOf (f w))) (f w) pairs r pairs′
@@ -42,7 +42,7 @@ other-pairs f w s l even n d =
     let size-work : length work ≡ 3 * length w = length-replicate (3 * length w) 0 in
     let size : length pairs ≡ length (f w) = length-replicate (length (f w)) 0 in
     let own : List Line = workLine (length work) (3 * length w) ∷ resultLine (length pairs) (length (f w)) ∷ [] in
-    let none : tried (linesAt f w (length work) (length pairs)) ≡ Passed = both-pass (recordLines w) own (record-door .lets-in w s l) (all-pass own
+    let none : tried (linesAt f w (length work) (length pairs)) ≡ Passed = both-pass (recordDoor .door w) own (record-door .lets-in w s l) (all-pass own
     (le-ltb (length work) (3 * length w) (omega (arith, size-work)), (le-ltb (length pairs) (length (f w)) (omega (arith, size)), search))) in
     let cut : CutsAt f w work pairs (Counted.Count (length (endsOf (f w)))) (cleared (3 * length w) work) (written (f w) pairs) =
     record { filled = record { answer = rw none refl; result = rw none refl }; worked = rw none refl } in
@@ -97,8 +97,8 @@ buffer-left-alone d =
 
 -- 5. 'One that says "no space" before counting': 4 where the buffer has fewer entries than the record has letters
 pub no-space : ¬ Demand1 recordDoor (cutter (Answering
-    (λ w work entries. Counted.Count (length (separatedIcflEnds w)) unless recordLines w ++ workLine work (3 * length w) ∷ resultLine entries (2 * length w) ∷ []
-    then Counted.Refused)
+    (λ w work entries. Counted.Count (length (separatedIcflEnds w))
+    unless recordDoor .door w ++ workLine work (3 * length w) ∷ resultLine entries (2 * length w) ∷ [] then Counted.Refused)
     (λ w pairs. pairs)))
 unfolding tried separatedIcflEnds
 no-space d = not-both refl (d .pieceCut (b ∷ a ∷ []) (replicate 6 0) (0 ∷ 0 ∷ []) _ _ (Counted.Refused 4) (refl, refl, refl) .0 .first)

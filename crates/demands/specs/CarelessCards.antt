@@ -7,7 +7,7 @@ use lib.ListN.{getD, replicate}
 use Rattle.words.specs.Examples.{a}
 use Rattle.words.specs.Separated.{separatedIcflEnds}
 use Rattle.conditions.specs.Conditions.{lastOf, falls, faultyRecordEnds}
-use Rattle.checks.specs.Lines.{tried, recordLines}
+use Rattle.checks.specs.Lines.{tried}
 use Rattle.checks.specs.declared.Checked.the-variants.{Refused}
 use Rattle.checks.specs.declared.Counted.{Counted}
 use Rattle.checks.proofs.LineLaws.{not-both}
@@ -22,8 +22,8 @@ use Rattle.demands.specs.OneCall.{Card, cardCutter}
 -- right buffers, and f of the right answers, whatever the list of record ends is
 abbrev Answering : (List Counted → List Counted) → Card
 Answering f bytes es work pairs r work′ pairs′ =
-    (r ≡ batchWith 0 (f (batchOf recordLines bytes es work pairs .answers)))
-    × (work′ ≡ batchOf recordLines bytes es work pairs .work) × (pairs′ ≡ batchOf recordLines bytes es work pairs .pairs)
+    (r ≡ batchWith 0 (f (batchOf (recordDoor .door) bytes es work pairs .answers)))
+    × (work′ ≡ batchOf (recordDoor .door) bytes es work pairs .work) × (pairs′ ≡ batchOf (recordDoor .door) bytes es work pairs .pairs)
 
 -- one that refuses no list: an empty one is cut as a card without records
 pub refuses-none : ¬ Demand1 recordDoor (cardCutter (Answering (λ answers. answers)))

@@ -13,10 +13,11 @@ use Rattle.words.specs.Examples.{a, b}
 use Rattle.theory.specs.Statements.{here, there, WholePieces, Compatible}
 use Rattle.theory.specs.orders.MismatchLaws.{≪-asym}
 use Rattle.theory.specs.orders.LexLaws.{≤ₗ-not-≪, <ₗ-≤ₗ}
-use Rattle.checks.specs.Lines.{tried, recordLines}
+use Rattle.checks.specs.Lines.{tried}
 use Rattle.compare.specs.declared.suffixes.Comparison.{Comparison}
 use Rattle.compare.specs.Compare.{signOf, commonOf}
 use Rattle.demands.specs.Calls.{Calls}
+use Rattle.demands.specs.Demand1.{recordDoor}
 use Rattle.demands.specs.Demand3.{Demand3}
 use Rattle.demands.specs.Meets.{Meets}
 
@@ -41,7 +42,7 @@ aboveZero (pos n) = n
 aboveZero (negsuc n) = 0
 
 -- demand 3's field, of every stretch in `bba`
-pub any-stretch : (calls : Calls) → Meets recordLines calls → (compare : ℕ → ℕ → ℕ → ℕ → Comparison)
+pub any-stretch : (calls : Calls) → Meets (recordDoor .door) calls → (compare : ℕ → ℕ → ℕ → ℕ → Comparison)
     → ((first end start other : ℕ) → calls .Comparing (b ∷ b ∷ a ∷ []) first end start other (compare first end start other))
     → ¬ Compatible (λ first end. end ≤ 3) 3 (λ first end start other. signOf (compare first end start other))
 unfolding tried sign
@@ -58,7 +59,7 @@ any-stretch calls m compare h same =
 abbrev G : List ℕ
 G = b ∷ b ∷ a ∷ b ∷ b ∷ a ∷ b ∷ b ∷ b ∷ []
 
-pub whole-answers : (calls : Calls) → Meets recordLines calls → (compare : ℕ → ℕ → ℕ → ℕ → Comparison)
+pub whole-answers : (calls : Calls) → Meets (recordDoor .door) calls → (compare : ℕ → ℕ → ℕ → ℕ → Comparison)
     → ((first end start other : ℕ) → calls .Comparing G first end start other (compare first end start other))
     → ¬ Compatible (WholePieces (separatedIcflEnds G)) 9 compare
 unfolding tried sign commonLength separatedIcflEnds

@@ -11,7 +11,7 @@ use Rattle.words.specs.Factorizations.{icflEnds}
 use Rattle.theory.specs.Statements.{WholePieces, Compatible}
 use Rattle.words.specs.Separated.{separatedIcflEnds, isMarked}
 use Rattle.words.specs.Examples.{a}
-use Rattle.checks.specs.Lines.{Line, tried, _unless_then_, recordLines, workLine, markLine}
+use Rattle.checks.specs.Lines.{Line, tried, _unless_then_, workLine, markLine}
 use Rattle.checks.specs.declared.Checked.the-variants.{Refused}
 use Rattle.checks.specs.declared.Counted.{Counted}
 use Rattle.checks.proofs.LineLaws.{not-both}
@@ -46,7 +46,8 @@ marks-as-one f x = other-ends f (m ∷ m ∷ a ∷ []) (omega arith) (omega arit
 
 -- the test's refusal passed up: 9 for a record that holds a mark
 pub cut-refused-by-9 : ¬ Demand1 recordDoor (cutter (Answering
-    (λ w work entries. Counted.Count (length (separatedIcflEnds w)) unless recordLines w ++ workLine work (3 * length w) ∷ markLine w ∷ [] then Counted.Refused)
+    (λ w work entries. Counted.Count (length (separatedIcflEnds w))
+    unless recordDoor .door w ++ workLine work (3 * length w) ∷ markLine w ∷ [] then Counted.Refused)
     (λ w pairs. pairs)))
 unfolding tried separatedIcflEnds isMarked
 cut-refused-by-9 d = not-both refl (d .pieceCut (m ∷ []) (replicate 3 0) (0 ∷ 0 ∷ []) _ _ (Counted.Refused 9) (refl, refl, refl) .0 .first)
@@ -57,12 +58,12 @@ abbrev Trying : (List ℕ → ℕ → List Line) → Test
 Trying lines w work r work′ = (r ≡ extensionOf w unless lines w (length work) then Extension.Refused) × (work′ ≡ work)
 
 -- one that answers for a record with a mark
-pub test-without-9 : ¬ Demand1 recordDoor (tester (Trying (λ w entries. recordLines w ++ workLine entries (length w) ∷ [])))
+pub test-without-9 : ¬ Demand1 recordDoor (tester (Trying (λ w entries. recordDoor .door w ++ workLine entries (length w) ∷ [])))
 unfolding tried extensionOf isInverseLyndon isMarked
 test-without-9 d = not-both refl (sym (d .test (m ∷ []) (0 ∷ []) (0 ∷ []) Extension.InverseLyndon (refl, refl) .0 .first))
 
 -- one that looks for marks before it looks at its work buffer: 9 where 3 is due
-pub nine-before-three : ¬ Demand1 recordDoor (tester (Trying (λ w entries. recordLines w ++ markLine w ∷ workLine entries (length w) ∷ [])))
+pub nine-before-three : ¬ Demand1 recordDoor (tester (Trying (λ w entries. recordDoor .door w ++ markLine w ∷ workLine entries (length w) ∷ [])))
 unfolding tried isMarked
 nine-before-three d =
     let e : Refused 9 ≡ Refused 3 = d .test (m ∷ []) [] [] (Extension.Refused 9) (refl, refl) .0 .first in
@@ -71,7 +72,7 @@ nine-before-three d =
 
 -- ---- "The promise about two starting minutes covers stretches without marks": over the two marks of `ff ff 61` it fails
 
-pub over-marks : (calls : Calls) → Meets recordLines calls → (compare : ℕ → ℕ → ℕ → ℕ → Comparison)
+pub over-marks : (calls : Calls) → Meets (recordDoor .door) calls → (compare : ℕ → ℕ → ℕ → ℕ → Comparison)
     → ((first end start other : ℕ) → calls .Comparing (m ∷ m ∷ a ∷ []) first end start other (compare first end start other))
     → ¬ Compatible (WholePieces (separatedIcflEnds (m ∷ m ∷ a ∷ []))) 3 (λ first end start other. signOf (compare first end start other))
 unfolding tried sign separatedIcflEnds

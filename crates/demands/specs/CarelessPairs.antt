@@ -11,7 +11,7 @@ use Rattle.words.specs.Pairs.{endsInside, separatedPairs, endsOf}
 use Rattle.words.specs.Examples.{a, b}
 use Rattle.conditions.specs.Conditions.{faultyEnds}
 use Rattle.pairs.specs.PairedList.{faultyPairs}
-use Rattle.checks.specs.Lines.{Line, _when_, tried, _unless_then_, recordLines, workLine, resultLine, numberLine}
+use Rattle.checks.specs.Lines.{Line, _when_, tried, _unless_then_, workLine, resultLine, numberLine}
 use Rattle.checks.specs.Answers.{numberOf}
 use Rattle.checks.specs.declared.Counted.{Counted}
 use Rattle.checks.proofs.LineLaws.{not-both}
@@ -44,7 +44,7 @@ two-at-mark f x = other-pairs f (m ∷ []) (omega arith) (omega arith) (rw x ref
 -- "Refusal 4 counts both numbers": one that refuses only where there is no room for the ends
 pub room-for-ends : ¬ Demand1 recordDoor (cutter (Answering
     (λ w work entries. Counted.Count (length (separatedIcflEnds w))
-    unless recordLines w ++ workLine work (3 * length w) ∷ resultLine entries (length (separatedIcflEnds w)) ∷ [] then Counted.Refused)
+    unless recordDoor .door w ++ workLine work (3 * length w) ∷ resultLine entries (length (separatedIcflEnds w)) ∷ [] then Counted.Refused)
     (λ w pairs. pairs)))
 unfolding tried separatedIcflEnds
 room-for-ends d = not-both refl (sym (d .pieceCut (a ∷ []) (replicate 3 0) (0 ∷ []) _ _ (Counted.Count 1) (refl, refl, refl) .0 .first))
@@ -52,10 +52,10 @@ room-for-ends d = not-both refl (sym (d .pieceCut (a ∷ []) (replicate 3 0) (0 
 -- ---- readers and summaries, by the lines that they try; only the number is looked at
 
 abbrev Reads : (List ℕ → List ℕ → ℕ → List Line) → Reader
-Reads lines w ps k part number = number ≡ numberOf (tried (recordLines w ++ lines w ps k))
+Reads lines w ps k part number = number ≡ numberOf (tried (recordDoor .door w ++ lines w ps k))
 
 abbrev Sums : (List ℕ → List ℕ → List Line) → Summing
-Sums lines w ps r = r ≡ summaryOf (endsOf ps) unless recordLines w ++ lines w ps then emptySummary
+Sums lines w ps r = r ≡ summaryOf (endsOf ps) unless recordDoor .door w ++ lines w ps then emptySummary
 
 -- those that look at the ends alone
 abbrev endsLines : List ℕ → List ℕ → List Line

@@ -13,7 +13,7 @@ use Rattle.words.specs.declared.Fate.the-variants.{Joined}
 use Rattle.words.specs.declared.Break.{Break}
 use Rattle.words.specs.Examples.{a, b}
 use Rattle.buffers.specs.Buffers.{cleared, written}
-use Rattle.checks.specs.Lines.{Line, tried, _unless_then_, recordLines, resultLine}
+use Rattle.checks.specs.Lines.{Line, tried, _unless_then_, resultLine}
 use Rattle.checks.specs.declared.Checked.the-variants.{Passed}
 use Rattle.checks.proofs.LineLaws.{all-pass, both-pass}
 use Rattle.fates.specs.Entries.{entriesOfBreaks}
@@ -28,7 +28,7 @@ use Rattle.demands.specs.OneCall.{reasoner}
 -- ---- cuts with breaks that are right but for the breaks, which are f w, or for the lines under which the ends are written
 
 abbrev reasonedLines : (List ℕ → List Break) → List ℕ → (work pairs breaks : ℕ) → List Line
-reasonedLines f w work pairs breaks = recordLines w ++ icflLines w work pairs ++ resultLine breaks (5 * length (f w)) ∷ []
+reasonedLines f w work pairs breaks = recordDoor .door w ++ icflLines w work pairs ++ resultLine breaks (5 * length (f w)) ∷ []
 
 pub record ReasonsBy (f : List ℕ → List Break) (endLines : List ℕ → (work pairs breaks : ℕ) → List Line) (w work pairs breaks : List ℕ) (r : CountedBreaks)
     (work′ pairs′ breaks′ : List ℕ) : Type 0 where
@@ -39,7 +39,7 @@ pub record ReasonsBy (f : List ℕ → List Break) (endLines : List ℕ → (wor
   pub worked : work′ ≡ cleared (3 * length w) work unless reasonedLines f w (length work) (length pairs) (length breaks) then workAfter (3 * length w) work
 
 -- "A short buffer for them is met by refusal 4, once the ends have been found to fit": one that has written the ends by then
-pub ends-before-breaks-fit : ¬ Demand1 recordDoor (reasoner (ReasonsBy separatedBreaks (λ w work pairs breaks. recordLines w ++ icflLines w work pairs)))
+pub ends-before-breaks-fit : ¬ Demand1 recordDoor (reasoner (ReasonsBy separatedBreaks (λ w work pairs breaks. recordDoor .door w ++ icflLines w work pairs)))
 unfolding tried separatedIcflEnds separatedPairs separatedBreaks
 ends-before-breaks-fit d =
     let told = d .reasonedCut (a ∷ b ∷ []) (replicate 6 0) (replicate 4 0) [] (replicate 6 0) (1 ∷ 1 ∷ 2 ∷ 1 ∷ []) [] (CountedBreaks.Refused 4)
@@ -59,7 +59,7 @@ other-breaks f w s l n d =
     let size-breaks : length breaks ≡ 5 * length (f w) = length-replicate (5 * length (f w)) 0 in
     let own : List Line = icflLines w (length work) (length pairs) ++ resultLine (length breaks) (5 * length (f w)) ∷ [] in
     let none : tried (reasonedLines f w (length work) (length pairs) (length breaks)) ≡ Passed
-    = both-pass (recordLines w) own (record-door .lets-in w s l) (all-pass own (
+    = both-pass (recordDoor .door w) own (record-door .lets-in w s l) (all-pass own (
       le-ltb (length work) (3 * length w) (omega (arith, size-work)),
       (
         le-ltb (length pairs) (2 * length (separatedIcflEnds w)) (omega (arith, size-pairs)),

@@ -7,7 +7,7 @@ use lib.ListN.{length, take, getD, replicate}
 use Rattle.words.specs.Runs.{Triple, runs, separatedRuns}
 use Rattle.words.specs.Examples.{a, b}
 use Rattle.buffers.specs.Buffers.{written}
-use Rattle.checks.specs.Lines.{Line, tried, _unless_then_, recordLines, resultLine}
+use Rattle.checks.specs.Lines.{Line, tried, _unless_then_, resultLine}
 use Rattle.checks.specs.Answers.{Filled}
 use Rattle.checks.specs.declared.Counted.{Counted}
 use Rattle.checks.proofs.LineLaws.{not-both}
@@ -23,7 +23,7 @@ use Rattle.demands.specs.RepetitionsHold.{count-only, entries-only}
 -- one that writes before it has counted: with 4, as much of the answer as there is room for
 abbrev WritesFirst : Listing
 WritesFirst w out r out′ =
-    (r ≡ Counted.Count (length (separatedRuns w)) unless recordLines w ++ runsLines w (length out) then Counted.Refused)
+    (r ≡ Counted.Count (length (separatedRuns w)) unless recordDoor .door w ++ runsLines w (length out) then Counted.Refused)
     × (out′ ≡ take (length out) (written (entriesOfRuns (separatedRuns w)) out))
 
 pub written-before-counted : ¬ Demand1 recordDoor (lister WritesFirst)
@@ -35,7 +35,7 @@ written-before-counted d =
 
 -- one that does not count: 4 where the buffer has less room than as many repetitions as there can be would fill
 abbrev boundLines : List ℕ → ℕ → List Line
-boundLines w entries = recordLines w ++ resultLine entries (3 * (length w - 1)) ∷ []
+boundLines w entries = recordDoor .door w ++ resultLine entries (3 * (length w - 1)) ∷ []
 
 pub no-space-for-most : ¬ Demand1 recordDoor (lister
     (λ w out r out′. Filled (boundLines w (length out)) (length (separatedRuns w)) (entriesOfRuns (separatedRuns w)) out r out′))
@@ -45,7 +45,7 @@ no-space-for-most d = not-both refl (d .repetitions (a ∷ b ∷ []) [] [] (Coun
 -- ---- calls that are right but for the repetitions, which are f w
 
 abbrev listLines : (List ℕ → List Triple) → List ℕ → ℕ → List Line
-listLines f w entries = recordLines w ++ resultLine entries (3 * length (f w)) ∷ []
+listLines f w entries = recordDoor .door w ++ resultLine entries (3 * length (f w)) ∷ []
 
 abbrev Lists : (List ℕ → List Triple) → Listing
 Lists f w out r out′ = Filled (listLines f w (length out)) (length (f w)) (entriesOfRuns (f w)) out r out′

@@ -14,10 +14,12 @@ use Rattle.theory.specs.stretches.StretchBreaks.{separated-breaks-few}
 use Rattle.theory.specs.stretches.SeparatedRuns.{separated-runs-few}
 use Rattle.conditions.proofs.RecordEndsLaws.{listed}
 use Rattle.checks.specs.Lines.{Line, Door, tried, decided, _unless_then_, Accepted}
+use Rattle.checks.specs.Doors.{Guards}
 use Rattle.checks.specs.declared.Checked.{Checked}
 use Rattle.checks.specs.declared.Checked.the-variants.{Passed, Refused}
 use Rattle.checks.specs.declared.Counted.{Counted}
 use Rattle.checks.proofs.LineLaws.{both-passed, unmet}
+use Rattle.checks.proofs.RecordLaws.{accepted}
 use Rattle.extension.specs.declared.Extension.{Extension}
 use Rattle.extension.specs.Extension.{extensionOf, extensionLines, ExtensionFound}
 use Rattle.extension.proofs.VerdictLaws.{fails-told}
@@ -32,11 +34,12 @@ use Rattle.compare.specs.Compare.{compareLines, orderOf, Compared}
 use Rattle.batch.specs.declared.Batch.{Batch}
 use Rattle.batch.specs.Batch.{recordsFrom, uncut, batchOf, batchWith, batchLines, BatchDone}
 use Rattle.batch.proofs.FoldLaws.{batch-answers, batch-count, Every, every-added}
+use Rattle.exports.specs.Exports.{exportDoor}
 use Rattle.numbers.specs.Numbers.{SmallCount, SmallTest, SmallBreaks, SmallComparison, SmallBatch}
 
--- only an accepted record passes the lines at a door; it is short, and no number in an answer about it is above its length
-abbrev pub Guards : List Line → List ℕ → Type 0
-Guards door w = tried door ≡ Passed → Accepted w
+-- of an accepted record, which is short, no number in an answer is above its length; and only such a one passes an exported function's door
+pub guarded : (w : List ℕ) → Guards (exportDoor w) w
+guarded = accepted
 
 -- what holds of the result where the lines pass, and of every refusal, holds of the answer
 answer-has : {A : Type 0} (P : A → Type 0) (lines : List Line) (result : A) (refusal : ℕ → A) {a : A} → a ≡ result unless lines then refusal

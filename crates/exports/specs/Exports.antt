@@ -4,9 +4,13 @@ use mathlib.Core.List.{List, _++_}
 use Prim.Native.Nat.{ℕ}
 use lib.ListN.{getD}
 use Rattle.words.specs.Pairs.{endsOf}
-use Rattle.checks.specs.Lines.{Line, _unless_then_}
+use Rattle.checks.specs.Lines.{Line, Door, recordLines, _unless_then_}
 use Rattle.pairs.specs.PairedList.{factorFrom}
 use Rattle.reading.specs.Factor.{factorLines}
+
+-- the lines at the door of every exported function
+abbrev pub exportDoor : Door
+exportDoor = recordLines
 
 -- x are the numbers of an answer that is allowed
 abbrev pub Gives : {A N : Type 0} → (A → N) → N → (A → Type 0) → Type 0

@@ -4,7 +4,6 @@ use checks::Checked;
 use numbers::Replies;
 use summary::Summary;
 ghost use mathlib.Core.Path.{_≡_};
-ghost use Rattle.checks.specs.Lines.{recordLines};
 ghost use Rattle.extension.specs.Extension.{ExtensionFound};
 ghost use Rattle.icfl.specs.Icfl.{IcflDone};
 ghost use Rattle.icfl_breaks.specs.IcflBreaks.{BreaksDone};
@@ -15,7 +14,7 @@ ghost use Rattle.runs.specs.Runs.{RunsDone};
 ghost use Rattle.compare.specs.Compare.{Compared};
 ghost use Rattle.summary.specs.Summary.{Summarized};
 ghost use Rattle.numbers.specs.Numbers.{testNumbers, countNumbers, breaksNumbers, batchNumbers, comparisonNumbers};
-ghost use Rattle.exports.specs.Exports.{Gives, factorNumbers};
+ghost use Rattle.exports.specs.Exports.{exportDoor, Gives, factorNumbers};
 
 #[no_mangle]
 pub extern "C" fn metsroeb_test(
@@ -26,7 +25,7 @@ pub extern "C" fn metsroeb_test(
     border: &mut u16,
 ) -> u8
     ensures { λ r. ⌜ Gives testNumbers (r, now (failing .exit), now (prefix .exit), now (border .exit))
-        (λ a. ExtensionFound (recordLines (now (word .entry))) (now (word .entry)) (now (work .entry)) a (now (work .exit))) ⌝ }
+        (λ a. ExtensionFound (exportDoor (now (word .entry))) (now (word .entry)) (now (work .entry)) a (now (work .exit))) ⌝ }
 {
     numbers::tell_test(
         extension::find_extension(word, work),
@@ -44,7 +43,7 @@ pub extern "C" fn metsroeb_icfl(
     count: &mut u16,
 ) -> u8
     ensures { λ r. ⌜ Gives countNumbers (r, now (count .exit))
-        (λ a. IcflDone (recordLines (now (word .entry))) (now (word .entry)) (now (work .entry)) (now (pairs .entry)) a
+        (λ a. IcflDone (exportDoor (now (word .entry))) (now (word .entry)) (now (work .entry)) (now (pairs .entry)) a
         (now (work .exit)) (now (pairs .exit))) ⌝ }
 {
     numbers::tell_count(icfl::icfl(word, work, pairs), count)
@@ -60,7 +59,7 @@ pub extern "C" fn metsroeb_icfl_breaks(
     break_count: &mut u16,
 ) -> u8
     ensures { λ r. ⌜ Gives breaksNumbers (r, now (count .exit), now («break_count» .exit))
-        (λ a. BreaksDone (recordLines (now (word .entry))) (now (word .entry)) (now (work .entry)) (now (pairs .entry)) (now (breaks .entry)) a
+        (λ a. BreaksDone (exportDoor (now (word .entry))) (now (word .entry)) (now (work .entry)) (now (pairs .entry)) (now (breaks .entry)) a
         (now (work .exit)) (now (pairs .exit)) (now (breaks .exit))) ⌝ }
 {
     let answer = icfl_breaks::icfl_with_breaks(word, work, pairs, breaks);
@@ -75,7 +74,7 @@ pub extern "C" fn metsroeb_icfl_batch(
     pairs: &mut [u16],
 ) -> Replies
     ensures { λ r. ⌜ Gives batchNumbers r
-        (λ a. BatchDone recordLines (now (bytes .entry)) (now («record_ends» .entry)) (now (work .entry)) (now (pairs .entry)) a
+        (λ a. BatchDone exportDoor (now (bytes .entry)) (now («record_ends» .entry)) (now (work .entry)) (now (pairs .entry)) a
         (now (work .exit)) (now (pairs .exit))) ⌝ }
 {
     let answers = batch::icfl_batch(bytes, record_ends, work, pairs);
@@ -85,7 +84,7 @@ pub extern "C" fn metsroeb_icfl_batch(
 #[no_mangle]
 pub extern "C" fn metsroeb_cfl_in(word: &[u8], ends: &mut [u16], count: &mut u16) -> u8
     ensures { λ r. ⌜ Gives countNumbers (r, now (count .exit))
-        (λ a. CflInDone (recordLines (now (word .entry))) (now (word .entry)) (now (ends .entry)) a (now (ends .exit))) ⌝ }
+        (λ a. CflInDone (exportDoor (now (word .entry))) (now (word .entry)) (now (ends .entry)) a (now (ends .exit))) ⌝ }
 {
     numbers::tell_count(cfl::cfl_in(word, ends), count)
 }
@@ -93,7 +92,7 @@ pub extern "C" fn metsroeb_cfl_in(word: &[u8], ends: &mut [u16], count: &mut u16
 #[no_mangle]
 pub extern "C" fn metsroeb_lyndon_table(word: &[u8], lengths: &mut [u16], count: &mut u16) -> u8
     ensures { λ r. ⌜ Gives countNumbers (r, now (count .exit))
-        (λ a. Tabled (recordLines (now (word .entry))) (now (word .entry)) (now (lengths .entry)) a (now (lengths .exit))) ⌝ }
+        (λ a. Tabled (exportDoor (now (word .entry))) (now (word .entry)) (now (lengths .entry)) a (now (lengths .exit))) ⌝ }
 {
     numbers::tell_count(table::lyndon_table(word, lengths), count)
 }
@@ -101,7 +100,7 @@ pub extern "C" fn metsroeb_lyndon_table(word: &[u8], lengths: &mut [u16], count:
 #[no_mangle]
 pub extern "C" fn metsroeb_runs(word: &[u8], runs: &mut [u16], count: &mut u16) -> u8
     ensures { λ r. ⌜ Gives countNumbers (r, now (count .exit))
-        (λ a. RunsDone (recordLines (now (word .entry))) (now (word .entry)) (now (runs .entry)) a (now (runs .exit))) ⌝ }
+        (λ a. RunsDone (exportDoor (now (word .entry))) (now (word .entry)) (now (runs .entry)) a (now (runs .exit))) ⌝ }
 {
     numbers::tell_count(runs::runs(word, runs), count)
 }
@@ -117,7 +116,7 @@ pub extern "C" fn metsroeb_compare(
     common: &mut u16,
 ) -> u8
     ensures { λ r. ⌜ Gives comparisonNumbers (r, now (sign .exit), now (common .exit))
-        (λ a. Compared (recordLines (now (word .entry))) (now (word .entry)) first end start other a) ⌝ }
+        (λ a. Compared (exportDoor (now (word .entry))) (now (word .entry)) first end start other a) ⌝ }
 {
     let answer = compare::compare_suffixes(word, first, end, start, other);
     numbers::tell_comparison(answer, sign, common)
@@ -132,7 +131,7 @@ pub extern "C" fn metsroeb_factor(
     end: &mut u16,
 ) -> u8
     ensures { λ r. ⌜ (r, now (first .exit), now (end .exit))
-        ≡ factorNumbers (recordLines (now (word .entry))) (now (word .entry)) (now (pairs .entry)) number ⌝ }
+        ≡ factorNumbers (exportDoor (now (word .entry))) (now (word .entry)) (now (pairs .entry)) number ⌝ }
 {
     let admitted = checks::check_record(word).then(reading::admit_factor(word, pairs, number));
     let Checked::Passed = admitted else {
@@ -147,7 +146,7 @@ pub extern "C" fn metsroeb_factor(
 
 #[no_mangle]
 pub extern "C" fn metsroeb_summarize(word: &[u8], pairs: &[u16]) -> Summary
-    ensures { λ r. ⌜ Summarized (recordLines (now (word .entry))) (now (word .entry)) (now (pairs .entry)) r ⌝ }
+    ensures { λ r. ⌜ Summarized (exportDoor (now (word .entry))) (now (word .entry)) (now (pairs .entry)) r ⌝ }
 {
     summary::summarize(word, pairs)
 }

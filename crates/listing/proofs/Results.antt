@@ -18,7 +18,7 @@ use Rattle.buffers.specs.Buffers.{cleared, written}
 use Rattle.checks.specs.declared.Checked.{Checked}
 use Rattle.checks.specs.declared.Checked.the-variants.{Passed}
 use Rattle.checks.specs.declared.Counted.{Counted}
-use Rattle.checks.specs.Lines.{Line, tried, recordLines, Accepted}
+use Rattle.checks.specs.Lines.{Line, tried, Accepted}
 use Rattle.checks.specs.Answers.{numberOf, Filled}
 use Rattle.checks.proofs.LineLaws.{IsRefused, not-both, refused, all-pass, filled-front, filled-number}
 use Rattle.checks.proofs.RecordLaws.{record-passes}
@@ -31,7 +31,7 @@ use Rattle.summary.specs.declared.Summary.{Summary}
 use Rattle.summary.proofs.SummaryLaws.{bands-length}
 use Rattle.text.specs.Writing.{FitsAt, WroteAt}
 use Rattle.text.proofs.Stores.{wrote-front}
-use Rattle.listing.specs.Listing.{linesOf, sevenLines, refusedLine, listingOf, Listed}
+use Rattle.listing.specs.Listing.{listingDoor, linesOf, sevenLines, refusedLine, listingOf, Listed}
 use Rattle.listing.specs.Writing.{Printable, CutLists, ListingRoom, countOf}
 use Rattle.listing.proofs.Bounds.{total-is, refused-most, total-most}
 
@@ -41,17 +41,17 @@ module _ {work pairs strict out : List ℕ} (room : ListingRoom work pairs stric
   pub refused-fits : FitsAt 0 (refusedLine number) out
   refused-fits = record { inside = omega (arith, room .writing, refused-most number (omega arith)) }
 
-  pub refused-listed : {w : List ℕ} {k : Checked} {n : ℕ} {out′ : List ℕ} → k ≡ tried (recordLines w) → IsRefused k → number ≡ numberOf k
+  pub refused-listed : {w : List ℕ} {k : Checked} {n : ℕ} {out′ : List ℕ} → k ≡ tried (listingDoor w) → IsRefused k → number ≡ numberOf k
       → WroteAt 0 (refusedLine number) out n out′ → Listed w work pairs strict out n work pairs strict out′
   unfolding listingOf
   refused-listed {w} e h z x =
-      let is : refusedLine number ≡ listingOf w = refused (recordLines w) _ refusedLine e h z in
+      let is : refusedLine number ≡ listingOf w = refused (listingDoor w) _ refusedLine e h z in
       record {
         size = rw (← is) (omega (arith, x .place));
         text = rw (← is) (wrote-front x (omega (arith, refused-fits .inside)));
-        worked = refused (recordLines w) (cleared (3 * length w) work) (λ number. work) e h z;
-        pieces = refused (recordLines w) (written (separatedPairs w) pairs) (λ number. pairs) e h z;
-        stricts = refused (recordLines w) (written (separatedCflInEnds w) strict) (λ number. strict) e h z;
+        worked = refused (listingDoor w) (cleared (3 * length w) work) (λ number. work) e h z;
+        pieces = refused (listingDoor w) (written (separatedPairs w) pairs) (λ number. pairs) e h z;
+        stricts = refused (listingDoor w) (written (separatedCflInEnds w) strict) (λ number. strict) e h z;
       }
 
 -- ---- a record that is accepted
@@ -63,6 +63,9 @@ counted {r = Counted.Count m} f e = refl
 counted {r = Counted.Refused number} f e = absurd (not-both (filled-number f .0) e)
 
 module _ (w : List ℕ) (a : Accepted w) where
+  lets-in : tried (listingDoor w) ≡ Passed
+  lets-in = record-passes w a
+
   icfl-passes : (work entries : ℕ) → 3 * mostLetters ≤ work → 2 * mostLetters ≤ entries → tried (icflLines w work entries) ≡ Passed
   icfl-passes work entries h k =
       let works = le-ltb work (3 * length w) (omega (arith, a .short)) in
@@ -79,7 +82,7 @@ module _ (w : List ℕ) (a : Accepted w) where
 
   listing-is : listingOf w ≡ sevenLines (length w) (separatedPairs w) (separatedCflInEnds w) (summaryOf (separatedIcflEnds w))
   unfolding listingOf
-  listing-is = rw (record-passes w a)
+  listing-is = rw lets-in
 
   listing-most : length (listingOf w) ≤ 15 * mostLetters + 256
   unfolding sevenLines
@@ -130,8 +133,8 @@ both-cut {w} {work} {pairs} {strict} {pieces = pieces} {stricts = stricts} room 
       listed = λ n out′ x. record {
         size = x .place ∙ zero-add _;
         text = wrote-front x (omega (arith, room .writing, listing-most w a));
-        worked = rw (record-passes w a) (rw passes at (cut .worked));
-        pieces = rw (record-passes w a) (rw passes at (cut .result));
-        stricts = rw (record-passes w a) (rw strict-passes at (strict-cut .result));
+        worked = rw (lets-in w a) (rw passes at (cut .worked));
+        pieces = rw (lets-in w a) (rw passes at (cut .result));
+        stricts = rw (lets-in w a) (rw strict-passes at (strict-cut .result));
       };
     })

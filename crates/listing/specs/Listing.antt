@@ -7,7 +7,7 @@ use lib.ListN.{length}
 use Rattle.words.specs.Separated.{separatedIcflEnds, separatedCflInEnds}
 use Rattle.words.specs.Pairs.{separatedPairs}
 use Rattle.buffers.specs.Buffers.{cleared, written}
-use Rattle.checks.specs.Lines.{tried, _unless_then_, recordLines}
+use Rattle.checks.specs.Lines.{tried, Door, _unless_then_, recordLines}
 use Rattle.summary.specs.Summary.{summaryOf}
 use Rattle.summary.specs.declared.Summary.{Summary}
 use Rattle.text.specs.Text.{ascii, decimal, listBy, commaList, pairList, line}
@@ -33,15 +33,19 @@ sevenLines n pairs strict summary = flatten (linesOf n pairs strict summary)
 abbrev pub refusedLine : ℕ → List ℕ
 refusedLine number = line (ascii "refused") (decimal number)
 
+-- the lines that the program tries
+abbrev pub listingDoor : Door
+listingDoor = recordLines
+
 -- the listing of a record
 unfoldable pub listingOf : List ℕ → List ℕ
 unfolding decimal line sevenLines separatedIcflEnds separatedPairs separatedCflInEnds summaryOf tried
-listingOf w = sevenLines (length w) (separatedPairs w) (separatedCflInEnds w) (summaryOf (separatedIcflEnds w)) unless recordLines w then refusedLine
+listingOf w = sevenLines (length w) (separatedPairs w) (separatedCflInEnds w) (summaryOf (separatedIcflEnds w)) unless listingDoor w then refusedLine
 
 -- what the call answers and leaves in its buffers: the listing's length, the listing at the front of out, and the others as the two cuts leave them
 pub record Listed (w work pairs strict out : List ℕ) (r : ℕ) (work′ pairs′ strict′ out′ : List ℕ) : Type 0 where
   pub size : r ≡ length (listingOf w)
   pub text : out′ ≡ written (listingOf w) out
-  pub worked : work′ ≡ cleared (3 * length w) work unless recordLines w then (λ number. work)
-  pub pieces : pairs′ ≡ written (separatedPairs w) pairs unless recordLines w then (λ number. pairs)
-  pub stricts : strict′ ≡ written (separatedCflInEnds w) strict unless recordLines w then (λ number. strict)
+  pub worked : work′ ≡ cleared (3 * length w) work unless listingDoor w then (λ number. work)
+  pub pieces : pairs′ ≡ written (separatedPairs w) pairs unless listingDoor w then (λ number. pairs)
+  pub stricts : strict′ ≡ written (separatedCflInEnds w) strict unless listingDoor w then (λ number. strict)

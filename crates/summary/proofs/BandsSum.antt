@@ -11,7 +11,8 @@ use Rattle.words.specs.Pairs.{endsOf}
 use Rattle.theory.specs.places.EndsRise.{Rises, done, more, rises-few}
 use Rattle.checks.specs.declared.Checked.{Checked}
 use Rattle.checks.specs.declared.Checked.the-variants.{Passed, Refused}
-use Rattle.checks.specs.Lines.{tried, decided, recordLines}
+use Rattle.checks.specs.Lines.{Line, tried, decided}
+use Rattle.checks.specs.Doors.{Guards}
 use Rattle.summary.specs.declared.Summary.{Summary}
 use Rattle.summary.specs.Summary.{summaryLines, lengthsFrom, bitLength, countOf, bandsOf, emptySummary, summaryOf, Summarized}
 use Rattle.summary.proofs.EndsAdmitted.{EndsAccepted, all-admitted}
@@ -54,9 +55,9 @@ pub bands-sum : (n : ℕ) (es : List ℕ) → Rises n 0 es → n ≤ mostLetters
 bands-sum n es r l = rw (bands-are-counts es) (bands-sum-from r l)
 
 -- beside a refusal all are 0
-pub summary-bands-sum : {w ps : List ℕ} {r : Summary} → Summarized (recordLines w) w ps r → sum _+_ 0 (r .bands) ≡ r .count
+pub summary-bands-sum : {door : List Line} {w ps : List ℕ} {r : Summary} → Guards door w → Summarized door w ps r → sum _+_ 0 (r .bands) ≡ r .count
 unfolding sum summaryOf
-summary-bands-sum {w} {ps} s = rw (s .answer) (go (tried (recordLines w ++ summaryLines w ps)) (all-admitted w ps))
+summary-bands-sum {door} {w} {ps} g s = rw (s .answer) (go (tried (door ++ summaryLines w ps)) (all-admitted door w ps g))
   where
     es : List ℕ
     es = endsOf ps

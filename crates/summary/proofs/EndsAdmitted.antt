@@ -7,9 +7,9 @@ use lib.ListN.{length}
 use Rattle.words.specs.Words.{mostLetters}
 use Rattle.theory.specs.places.EndsRise.{Rises, rises-few, rises-inside, rises-at}
 use Rattle.checks.specs.declared.Checked.the-variants.{Passed}
-use Rattle.checks.specs.Lines.{tried, recordLines, Accepted}
+use Rattle.checks.specs.Lines.{Line, tried, Accepted}
+use Rattle.checks.specs.Doors.{Guards}
 use Rattle.checks.proofs.LineLaws.{both-passed, unmet}
-use Rattle.checks.proofs.RecordLaws.{accepted}
 use Rattle.words.specs.Pairs.{endsOf}
 use Rattle.theory.specs.places.PairedLists.{paired-rise, paired-number}
 use Rattle.pairs.proofs.PairsLaws.{pairs-accepted}
@@ -26,9 +26,9 @@ ends-admitted w ps a e =
     let v = pairs-accepted ps (length w) (unmet (summaryLines w ps) e .0) in
     record { letters = a .short; some = omega (arith, v .some, paired-number (v .paired)); rises = paired-rise (v .paired) }
 
--- the same of all lines of the call
-pub all-admitted : (w ps : List ℕ) → tried (recordLines w ++ summaryLines w ps) ≡ Passed → EndsAccepted w (endsOf ps)
-all-admitted w ps e = let b = both-passed (recordLines w) (summaryLines w ps) e in ends-admitted w ps (accepted w (b .0)) (b .1)
+-- the same of all lines of the call, whatever stands at its door
+pub all-admitted : (door : List Line) (w ps : List ℕ) → Guards door w → tried (door ++ summaryLines w ps) ≡ Passed → EndsAccepted w (endsOf ps)
+all-admitted door w ps g e = let b = both-passed door (summaryLines w ps) e in ends-admitted w ps (g (b .0)) (b .1)
 
 pub summable : {w es : List ℕ} → EndsAccepted w es → Summable es
 summable v = record {

@@ -3,11 +3,13 @@
 -- (latest-only). The parts are those of demand 3: they lie between neighbouring ends, the first from 0.
 use mathlib.Core.Path.{_≡_, refl}
 use mathlib.Core.Logic.{⊎-elim}
+use mathlib.Core.Bool.{true}
 use mathlib.Core.List.{List, [], _∷_, _++_}
 use Prim.Native.Nat.{ℕ, _+_, _-_, _≤_, _<_}
 use native.Mathlib.Decide.{ℕ-discrete}
 use native.Mathlib.Omega.{arith}
 use lib.ListN.{length}
+use lib.Dec.{ltb}
 use Rattle.theory.specs.orders.Decisions.{neither-less}
 use Rattle.words.specs.Pairs.{endsOf}
 use Rattle.theory.specs.Statements.{Adjacent, here, there, Part}
@@ -16,9 +18,10 @@ use Rattle.theory.specs.places.EndsRise.{Rises, done, more}
 use Rattle.theory.specs.places.Parts.{rises-adjacent}
 use Rattle.checks.specs.declared.Checked.{Checked}
 use Rattle.checks.specs.declared.Checked.the-variants.{Passed, Refused}
-use Rattle.checks.specs.Lines.{Line, tried, decided, recordLines}
+use Rattle.checks.specs.Lines.{Line, tried, decided}
+use Rattle.checks.specs.Doors.{Guards}
 use Rattle.checks.specs.Answers.{numberOf}
-use Rattle.checks.proofs.LineLaws.{not-both, zero-passes}
+use Rattle.checks.proofs.LineLaws.{not-both, everyNumber, every-joined, zero-passes}
 use Rattle.summary.specs.declared.Summary.{Summary}
 use Rattle.summary.specs.Summary.{summaryLines, lengthsFrom, greatest, startOf, countOf, summaryOf, emptySummary, Summarized}
 use Rattle.summary.proofs.EndsAdmitted.{EndsAccepted, all-admitted}
@@ -98,16 +101,18 @@ latest-longest {es = es} r l =
     let x = start-latest (greatest (lengthsFrom 0 es)) r (count-greatest _ (lengthsFrom 0 es) refl (greatest-some r l)) in
     record { begins = x .begins; most = λ i j p. greatest-most es p; latest = x .latest }
 
-pub summary-latest : {w ps : List ℕ} {r : Summary} → Summarized (recordLines w) w ps r → r .refusal ≡ 0
-    → LatestLongest (endsOf ps) (r .longest) (r .from)
+pub summary-latest : {door : List Line} {w ps : List ℕ} {r : Summary} → Guards door w → everyNumber (ltb 0) door ≡ true → Summarized door w ps r
+    → r .refusal ≡ 0 → LatestLongest (endsOf ps) (r .longest) (r .from)
 unfolding summaryOf
-summary-latest {w} {ps} s z = rw (s .answer) (go (tried lines) (zero-passes lines refl) (all-admitted w ps) (rw (s .answer) at z))
+summary-latest {door} {w} {ps} g some s z =
+    let above = every-joined (ltb 0) door (summaryLines w ps) some refl in
+    rw (s .answer) (go (tried lines) (zero-passes lines above) (all-admitted door w ps g) (rw (s .answer) at z))
   where
     es : List ℕ
     es = endsOf ps
 
     lines : List Line
-    lines = recordLines w ++ summaryLines w ps
+    lines = door ++ summaryLines w ps
 
     go : (k : Checked) → (numberOf k ≡ 0 → k ≡ Passed) → (k ≡ Passed → EndsAccepted w es) → decided k (summaryOf es) emptySummary .refusal ≡ 0
         → LatestLongest es (decided k (summaryOf es) emptySummary .longest) (decided k (summaryOf es) emptySummary .from)

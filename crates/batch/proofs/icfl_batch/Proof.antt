@@ -8,6 +8,7 @@ use native.Mathlib.Omega.{arith}
 use Rattle.buffers.proofs.PartLaws.{rest-length}
 use Rattle.checks.specs.Lines.{recordLines}
 use Rattle.checks.proofs.LineLaws.{passed}
+use Rattle.checks.proofs.RecordLaws.{accepted}
 use Rattle.batch.proofs.Cutting.{used-few, batch-refused, Cutting, cutting-starts, cutting-ends, record-from, record-end, lent-on, lent-room}
 use Rattle.batch.proofs.icfl_batch.Statement.{statement}
 use Rattle.batch.proofs.icfl_batch.Tie as tie
@@ -71,7 +72,7 @@ icfl-requires : tie.Need-icfl-requires Inv-loop μ-loop
 icfl-requires c κs = search needs
 
 entries-used-requires : tie.Need-entries-used-requires Inv-loop μ-loop
-entries-used-requires c κs = used-few (c .before .before .before .before .icfl .ensures)
+entries-used-requires c κs = used-few (accepted _) (c .before .before .before .before .icfl .ensures)
 
 add-used : tie.Need-add-used Inv-loop μ-loop
 add-used c =

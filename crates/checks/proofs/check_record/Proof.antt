@@ -1,5 +1,6 @@
 use borrow.Author.Needs.{needs}
 use Rattle.checks.proofs.LineLaws.{both}
+use Rattle.checks.proofs.RecordLaws.{accepted}
 use Rattle.checks.proofs.check_record.Statement.{statement}
 use Rattle.checks.proofs.check_record.Tie as tie
 
@@ -13,7 +14,10 @@ then-requires : tie.Need-then-requires
 then-requires c κs = search needs
 
 returns : tie.Need-returns
-returns c = both _ _ (c .then .ensures) (c .before .before .when .ensures) (c .before .when2 .ensures)
+returns c = record {
+  says = both _ _ (c .then .ensures) (c .before .before .when .ensures) (c .before .when2 .ensures);
+  guards = accepted _;
+}
 
 pub check-record-spec : {M : Type 1} → statement M
 check-record-spec = tie.close (tie.spec when-requires when-requires-2 then-requires returns)

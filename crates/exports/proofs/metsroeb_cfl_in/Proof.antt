@@ -1,6 +1,5 @@
 use borrow.Author.Needs.{needs}
-use Rattle.checks.proofs.RecordLaws.{accepted}
-use Rattle.exports.proofs.SmallLaws.{cfl-in-small}
+use Rattle.exports.proofs.SmallLaws.{guarded, cfl-in-small}
 use Rattle.exports.proofs.metsroeb_cfl_in.Statement.{statement}
 use Rattle.exports.proofs.metsroeb_cfl_in.Tie as tie
 
@@ -8,7 +7,7 @@ cfl-in-requires : tie.Need-cfl-in-requires
 cfl-in-requires c κs = search needs
 
 tell-count-requires : tie.Need-tell-count-requires
-tell-count-requires c κs = cfl-in-small _ _ _ (accepted _) (c .before .before .before .cfl-in .ensures)
+tell-count-requires c κs = cfl-in-small _ _ _ (guarded _) (c .before .before .before .cfl-in .ensures)
 
 same-length : tie.Need-same-length
 same-length c = search needs

@@ -1,6 +1,5 @@
 use borrow.Author.Needs.{needs}
-use Rattle.checks.proofs.RecordLaws.{accepted}
-use Rattle.exports.proofs.SmallLaws.{comparison-small}
+use Rattle.exports.proofs.SmallLaws.{guarded, comparison-small}
 use Rattle.exports.proofs.metsroeb_compare.Statement.{statement}
 use Rattle.exports.proofs.metsroeb_compare.Tie as tie
 
@@ -8,7 +7,7 @@ compare-suffixes-requires : tie.Need-compare-suffixes-requires
 compare-suffixes-requires c κs = search needs
 
 tell-comparison-requires : tie.Need-tell-comparison-requires
-tell-comparison-requires c κs = comparison-small (accepted _) (c .before .before .compare-suffixes .ensures)
+tell-comparison-requires c κs = comparison-small (guarded _) (c .before .before .compare-suffixes .ensures)
 
 returns : tie.Need-returns
 returns c = (_, c .before .before .before .compare-suffixes .ensures, c .tell-comparison .ensures)

@@ -2,21 +2,22 @@ use borrow.Author.Needs.{needs}
 use mathlib.Core.Path.{_≡_, refl}
 use mathlib.Core.List.{_++_}
 use Rattle.words.specs.Pairs.{endsOf}
-use Rattle.checks.specs.Lines.{tried, recordLines}
+use Rattle.checks.specs.Lines.{tried}
 use Rattle.checks.specs.declared.Checked.the-variants.{Passed}
 use Rattle.checks.proofs.LineLaws.{both, both-passed, passed, refused}
 use Rattle.reading.specs.Factor.{factorLines}
 use Rattle.reading.proofs.FactorLaws.{Placed, placed}
+use Rattle.exports.specs.Exports.{exportDoor}
 use Rattle.exports.proofs.metsroeb_factor.Statement.{statement}
 use Rattle.exports.proofs.metsroeb_factor.Tie as tie
 
 -- the reader's own lines were tried with those at its door
 tried-at : (c : tie.After-then) → (let start = c .before .before .before .before .before in
-    c .then .result ≡ tried (recordLines (start .args .word .now) ++ factorLines (start .args .word .now) (start .args .pairs .now) (start .args .number)))
-tried-at c = both _ _ (c .then .ensures) (c .before .before .check-record .ensures) (c .before .admit-factor .ensures)
+    c .then .result ≡ tried (exportDoor (start .args .word .now) ++ factorLines (start .args .word .now) (start .args .pairs .now) (start .args .number)))
+tried-at c = both _ _ (c .then .ensures) (c .before .before .check-record .ensures .says) (c .before .admit-factor .ensures)
 
 admitted-at : (c : tie.After-enum-told) → (let start = c .before .before .before .before .before .before .before in
-    tried (recordLines (start .args .word .now) ++ factorLines (start .args .word .now) (start .args .pairs .now) (start .args .number)) ≡ Passed)
+    tried (exportDoor (start .args .word .now) ++ factorLines (start .args .word .now) (start .args .pairs .now) (start .args .number)) ≡ Passed)
 admitted-at c = passed _ (tried-at (c .before .before)) (c .before .match .keys1)
 
 placed-at : (c : tie.After-enum-told) → (let start = c .before .before .before .before .before .before .before in
@@ -24,7 +25,7 @@ placed-at : (c : tie.After-enum-told) → (let start = c .before .before .before
 placed-at c =
     let start = c .before .before .before .before .before .before .before in
     let own = factorLines (start .args .word .now) (start .args .pairs .now) (start .args .number) in
-    placed _ _ _ (both-passed (recordLines (start .args .word .now)) own (admitted-at c) .1)
+    placed _ _ _ (both-passed (exportDoor (start .args .word .now)) own (admitted-at c) .1)
 
 check-record-requires : tie.Need-check-record-requires
 check-record-requires c κs = search needs

@@ -1,6 +1,5 @@
 use borrow.Author.Needs.{needs}
-use Rattle.checks.proofs.RecordLaws.{accepted}
-use Rattle.exports.proofs.SmallLaws.{icfl-small}
+use Rattle.exports.proofs.SmallLaws.{guarded, icfl-small}
 use Rattle.exports.proofs.metsroeb_icfl.Statement.{statement}
 use Rattle.exports.proofs.metsroeb_icfl.Tie as tie
 
@@ -8,7 +7,7 @@ icfl-requires : tie.Need-icfl-requires
 icfl-requires c κs = search needs
 
 tell-count-requires : tie.Need-tell-count-requires
-tell-count-requires c κs = icfl-small (accepted _) (c .before .before .before .before .before .icfl .ensures)
+tell-count-requires c κs = icfl-small (guarded _) (c .before .before .before .before .before .icfl .ensures)
 
 same-length : tie.Need-same-length
 same-length c = search needs

@@ -1,6 +1,5 @@
 use borrow.Author.Needs.{needs}
-use Rattle.checks.proofs.RecordLaws.{accepted}
-use Rattle.exports.proofs.SmallLaws.{batch-small}
+use Rattle.exports.proofs.SmallLaws.{guarded, batch-small}
 use Rattle.exports.proofs.metsroeb_icfl_batch.Statement.{statement}
 use Rattle.exports.proofs.metsroeb_icfl_batch.Tie as tie
 
@@ -8,7 +7,7 @@ icfl-batch-requires : tie.Need-icfl-batch-requires
 icfl-batch-requires c κs = search needs
 
 numbers-of-batch-requires : tie.Need-numbers-of-batch-requires
-numbers-of-batch-requires c κs = batch-small accepted (c .before .before .before .before .icfl-batch .ensures)
+numbers-of-batch-requires c κs = batch-small guarded (c .before .before .before .before .icfl-batch .ensures)
 
 same-length : tie.Need-same-length
 same-length c = search needs

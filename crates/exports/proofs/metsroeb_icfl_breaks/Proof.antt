@@ -1,6 +1,5 @@
 use borrow.Author.Needs.{needs}
-use Rattle.checks.proofs.RecordLaws.{accepted}
-use Rattle.exports.proofs.SmallLaws.{breaks-small}
+use Rattle.exports.proofs.SmallLaws.{guarded, breaks-small}
 use Rattle.exports.proofs.metsroeb_icfl_breaks.Statement.{statement}
 use Rattle.exports.proofs.metsroeb_icfl_breaks.Tie as tie
 
@@ -8,7 +7,7 @@ icfl-with-breaks-requires : tie.Need-icfl-with-breaks-requires
 icfl-with-breaks-requires c κs = search needs
 
 tell-breaks-requires : tie.Need-tell-breaks-requires
-tell-breaks-requires c κs = breaks-small (accepted _) (c .before .before .before .before .before .before .before .before .icfl-with-breaks .ensures)
+tell-breaks-requires c κs = breaks-small (guarded _) (c .before .before .before .before .before .before .before .before .icfl-with-breaks .ensures)
 
 same-length : tie.Need-same-length
 same-length c = search needs

@@ -1,6 +1,5 @@
 use borrow.Author.Needs.{needs}
-use Rattle.checks.proofs.RecordLaws.{accepted}
-use Rattle.exports.proofs.SmallLaws.{table-small}
+use Rattle.exports.proofs.SmallLaws.{guarded, table-small}
 use Rattle.exports.proofs.metsroeb_lyndon_table.Statement.{statement}
 use Rattle.exports.proofs.metsroeb_lyndon_table.Tie as tie
 
@@ -8,7 +7,7 @@ lyndon-table-requires : tie.Need-lyndon-table-requires
 lyndon-table-requires c κs = search needs
 
 tell-count-requires : tie.Need-tell-count-requires
-tell-count-requires c κs = table-small _ _ _ (accepted _) (c .before .before .before .lyndon-table .ensures)
+tell-count-requires c κs = table-small _ _ _ (guarded _) (c .before .before .before .lyndon-table .ensures)
 
 same-length : tie.Need-same-length
 same-length c = search needs

@@ -1,6 +1,5 @@
 use borrow.Author.Needs.{needs}
-use Rattle.checks.proofs.RecordLaws.{accepted}
-use Rattle.exports.proofs.SmallLaws.{runs-small}
+use Rattle.exports.proofs.SmallLaws.{guarded, runs-small}
 use Rattle.exports.proofs.metsroeb_runs.Statement.{statement}
 use Rattle.exports.proofs.metsroeb_runs.Tie as tie
 
@@ -8,7 +7,7 @@ runs-requires : tie.Need-runs-requires
 runs-requires c κs = search needs
 
 tell-count-requires : tie.Need-tell-count-requires
-tell-count-requires c κs = runs-small _ _ _ (accepted _) (c .before .before .before .runs .ensures)
+tell-count-requires c κs = runs-small _ _ _ (guarded _) (c .before .before .before .runs .ensures)
 
 same-length : tie.Need-same-length
 same-length c = search needs

@@ -1,6 +1,5 @@
 use borrow.Author.Needs.{needs}
-use Rattle.checks.proofs.RecordLaws.{accepted}
-use Rattle.exports.proofs.SmallLaws.{test-small}
+use Rattle.exports.proofs.SmallLaws.{guarded, test-small}
 use Rattle.exports.proofs.metsroeb_test.Statement.{statement}
 use Rattle.exports.proofs.metsroeb_test.Tie as tie
 
@@ -8,7 +7,7 @@ find-extension-requires : tie.Need-find-extension-requires
 find-extension-requires c κs = search needs
 
 tell-test-requires : tie.Need-tell-test-requires
-tell-test-requires c κs = test-small (accepted _) (c .before .before .before .before .before .find-extension .ensures)
+tell-test-requires c κs = test-small (guarded _) (c .before .before .before .before .before .find-extension .ensures)
 
 same-length : tie.Need-same-length
 same-length c = search needs

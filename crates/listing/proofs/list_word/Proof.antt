@@ -3,8 +3,7 @@ use borrow.Author.Needs.{needs}
 use mathlib.Core.Path.{sym}
 use lib.Seq.{length-take-le}
 use Rattle.checks.specs.Lines.{Accepted}
-use Rattle.checks.proofs.LineLaws.{passed}
-use Rattle.checks.proofs.RecordLaws.{accepted}
+use Rattle.checks.proofs.RecordLaws.{let-in}
 use Rattle.listing.proofs.Results.{refused-fits, refused-listed, pieces-few, BothCut, both-cut}
 use Rattle.listing.proofs.list_word.Statement.{statement}
 use Rattle.listing.proofs.list_word.Tie as tie
@@ -17,7 +16,7 @@ abbrev start : tie.After-cut → tie.Start
 start c = c .before .before .before .before .before .before .before .before .before .before .before
 
 accepted-at : (c : tie.At-match-keys1) → Accepted (c .before .before .before .before .before .before .before .args .word .now)
-accepted-at c = accepted _ (passed _ (c .before .check-record .ensures) (c .match .keys1))
+accepted-at c = let-in (c .before .check-record .ensures) (c .match .keys1)
 
 both-at : (c : tie.After-entries)
     → (let later = c .before in
@@ -52,7 +51,7 @@ returns : tie.Need-returns
 returns c =
     let at-number = c .before .before .before .before in
     let at-match = at-number .before .before in
-    refused-listed (at-match .before .before .before .before .before .before .before .pre) (search needs) (at-match .before .check-record .ensures)
+    refused-listed (at-match .before .before .before .before .before .before .before .pre) (search needs) (at-match .before .check-record .ensures .says)
     (at-match .match .keys2) (at-number .number .ensures) (c .before .before .write-refusal .ensures)
 
 cut-requires : tie.Need-cut-requires

@@ -1,17 +1,12 @@
 -- Refused at the door, or the room's promise past it.
 use borrow.Author.Needs.{needs}
-use mathlib.Core.Path.{_≡_, _∙_}
+use mathlib.Core.Path.{_∙_}
 use mathlib.Core.List.{List, []}
 use Prim.Native.Nat.{ℕ}
-use Rattle.checks.specs.Lines.{tried, recordLines}
-use Rattle.checks.specs.declared.Checked.the-variants.{Passed}
 use Rattle.checks.proofs.LineLaws.{passed, past-door, refused-at-door}
-use Rattle.checks.proofs.RecordLaws.{accepted}
+use Rattle.checks.proofs.RecordLaws.{let-in}
 use Rattle.reading.proofs.factor_at.Statement.{statement}
 use Rattle.reading.proofs.factor_at.Tie as tie
-
-passed-at : (c : tie.At-match-keys1) → tried (recordLines (c .before .before .before .before .args .word .now)) ≡ Passed
-passed-at c = passed _ (c .before .check-record .ensures) (c .match .keys1)
 
 check-record-requires : tie.Need-check-record-requires
 check-record-requires c κs = search needs
@@ -37,18 +32,18 @@ part-result-end c = search needs
 returns : tie.Need-returns
 returns c =
     let at-match = c .before .before .before in
-    let says = at-match .before .check-record .ensures in
+    let says = at-match .before .check-record .ensures .says in
     record {
       number-is = refused-at-door _ _ 0 (λ (n : ℕ). n) says (at-match .match .keys2) (c .before .number .ensures);
       part-is = refused-at-door {A = List ℕ} _ _ _ (λ (n : ℕ). []) says (at-match .match .keys2) (c .before .number .ensures);
     }
 
 part-at-requires : tie.Need-part-at-requires
-part-at-requires c κs = accepted _ (passed-at (c .before .before))
+part-at-requires c κs = let at-match = c .before .before in let-in (at-match .before .check-record .ensures) (at-match .match .keys1)
 
 returns-2 : tie.Need-returns-2
 returns-2 c =
-    let p = passed-at (c .before .before .before) in
+    let p = passed _ (c .before .before .before .before .check-record .ensures .says) (c .before .before .before .match .keys1) in
     record {
       number-is = c .part-at .ensures .number-is ∙ past-door _ _ 0 (λ (n : ℕ). n) p;
       part-is = c .part-at .ensures .part-is ∙ past-door {A = List ℕ} _ _ _ (λ (n : ℕ). []) p;

@@ -1,16 +1,11 @@
 -- Refused at the door, or the room's promise past it.
 use borrow.Author.Needs.{needs}
-use mathlib.Core.Path.{_≡_, _∙_}
-use Rattle.checks.specs.Lines.{tried, recordLines}
-use Rattle.checks.specs.declared.Checked.the-variants.{Passed}
+use mathlib.Core.Path.{_∙_}
 use Rattle.checks.proofs.LineLaws.{passed, past-door, refused-at-door}
-use Rattle.checks.proofs.RecordLaws.{accepted}
+use Rattle.checks.proofs.RecordLaws.{let-in}
 use Rattle.summary.specs.Summary.{emptySummary}
 use Rattle.summary.proofs.summarize.Statement.{statement}
 use Rattle.summary.proofs.summarize.Tie as tie
-
-passed-at : (c : tie.At-match-keys1) → tried (recordLines (c .before .before .before .before .args .word .now)) ≡ Passed
-passed-at c = passed _ (c .before .check-record .ensures) (c .match .keys1)
 
 check-record-requires : tie.Need-check-record-requires
 check-record-requires c κs = search needs
@@ -30,14 +25,16 @@ empty-requires c κs = search needs
 returns : tie.Need-returns
 returns c =
     let at-match = c .before .before .before in
-    let says = at-match .before .check-record .ensures in
+    let says = at-match .before .check-record .ensures .says in
     record { answer = c .empty .ensures ∙ refused-at-door _ _ _ emptySummary says (at-match .match .keys2) (c .before .number .ensures) }
 
 summarize-pairs-requires : tie.Need-summarize-pairs-requires
-summarize-pairs-requires c κs = accepted _ (passed-at (c .before))
+summarize-pairs-requires c κs = let at-match = c .before in let-in (at-match .before .check-record .ensures) (at-match .match .keys1)
 
 returns-2 : tie.Need-returns-2
-returns-2 c = record { answer = c .summarize-pairs .ensures .answer ∙ past-door _ _ _ emptySummary (passed-at (c .before .before)) }
+returns-2 c =
+    let p = passed _ (c .before .before .before .check-record .ensures .says) (c .before .before .match .keys1) in
+    record { answer = c .summarize-pairs .ensures .answer ∙ past-door _ _ _ emptySummary p }
 
 pub summarize-spec : {M : Type 1} → statement M
 summarize-spec =

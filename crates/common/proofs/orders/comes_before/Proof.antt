@@ -5,7 +5,7 @@ use borrow.Author.Tests.{not-true, not-false}
 use native.Mathlib.Omega.{arith}
 use Prim.Native.Nat.{_+_}
 use lib.ListN.{getD}
-use Rattle.common.proofs.OrderLaws.{sign-decides}
+use Rattle.letters.proofs.OrderLaws.{sign-decides}
 use Rattle.theory.specs.orders.CommonLength.{Agree}
 use Rattle.theory.specs.repetitions.TwoOrders.{UpTo}
 use Rattle.common.specs.Orders.{mostByte}

@@ -1,17 +1,12 @@
 -- Refused at the door, or the room's promise past it.
 use borrow.Author.Needs.{needs}
-use mathlib.Core.Path.{_≡_, _∙_}
+use mathlib.Core.Path.{_∙_}
 use Prim.Native.Nat.{ℕ}
-use Rattle.checks.specs.Lines.{tried, recordLines}
-use Rattle.checks.specs.declared.Checked.the-variants.{Passed}
 use Rattle.checks.proofs.LineLaws.{passed, past-door, refused-at-door}
-use Rattle.checks.proofs.RecordLaws.{accepted}
+use Rattle.checks.proofs.RecordLaws.{let-in}
 use Rattle.compare.specs.declared.suffixes.Comparison.{Comparison}
 use Rattle.compare.proofs.suffixes.compare_suffixes.Statement.{statement}
 use Rattle.compare.proofs.suffixes.compare_suffixes.Tie as tie
-
-passed-at : (c : tie.At-match-keys1) → tried (recordLines (c .before .before .before .args .word .now)) ≡ Passed
-passed-at c = passed _ (c .before .check-record .ensures) (c .match .keys1)
 
 check-record-requires : tie.Need-check-record-requires
 check-record-requires c κs = search needs
@@ -28,14 +23,16 @@ number-requires c κs = search needs
 returns : tie.Need-returns
 returns c =
     let at-match = c .before .before in
-    let told = at-match .before .check-record .ensures in
+    let told = at-match .before .check-record .ensures .says in
     record { answer = refused-at-door _ _ _ (λ (n : ℕ). Comparison.Refused n) told (at-match .match .keys2) (c .number .ensures) }
 
 compare-within-requires : tie.Need-compare-within-requires
-compare-within-requires c κs = accepted _ (passed-at (c .before))
+compare-within-requires c κs = let at-match = c .before in let-in (at-match .before .check-record .ensures) (at-match .match .keys1)
 
 returns-2 : tie.Need-returns-2
-returns-2 c = record { answer = c .compare-within .ensures .answer ∙ past-door _ _ _ (λ (n : ℕ). Comparison.Refused n) (passed-at (c .before .before)) }
+returns-2 c =
+    let p = passed _ (c .before .before .before .check-record .ensures .says) (c .before .before .match .keys1) in
+    record { answer = c .compare-within .ensures .answer ∙ past-door _ _ _ (λ (n : ℕ). Comparison.Refused n) p }
 
 pub compare-suffixes-spec : {M : Type 1} → statement M
 compare-suffixes-spec =

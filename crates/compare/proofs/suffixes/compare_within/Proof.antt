@@ -6,7 +6,7 @@ use native.Mathlib.Omega.{arith}
 use lib.ListN.{length}
 use Rattle.theory.specs.orders.WordSigns.{sign-parts}
 use Rattle.theory.specs.orders.CommonWithin.{common-parts}
-use Rattle.common.proofs.OrderLaws.{sign-read}
+use Rattle.letters.proofs.OrderLaws.{sign-read}
 use Rattle.checks.specs.declared.Checked.the-variants.{Passed}
 use Rattle.checks.specs.Lines.{tried}
 use Rattle.checks.proofs.LineLaws.{passed, refused}

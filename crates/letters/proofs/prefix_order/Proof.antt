@@ -1,7 +1,7 @@
 use native.Mathlib.Omega.{arith}
-use Rattle.common.specs.Steps.{PrefixSign}
-use Rattle.common.proofs.order.prefix_order.Statement.{statement}
-use Rattle.common.proofs.order.prefix_order.Tie as tie
+use Rattle.letters.specs.Steps.{PrefixSign}
+use Rattle.letters.proofs.prefix_order.Statement.{statement}
+use Rattle.letters.proofs.prefix_order.Tie as tie
 
 returns : tie.Need-returns
 returns c = record { sign-is = PrefixSign.before (c .if1 .taken); common-is = omega (arith, c .if1 .taken) }

@@ -1,6 +1,6 @@
-use Rattle.common.specs.Steps.{LetterSign}
-use Rattle.common.proofs.order.letter_sign.Statement.{statement}
-use Rattle.common.proofs.order.letter_sign.Tie as tie
+use Rattle.letters.specs.Steps.{LetterSign}
+use Rattle.letters.proofs.letter_sign.Statement.{statement}
+use Rattle.letters.proofs.letter_sign.Tie as tie
 
 returns : tie.Need-returns
 returns c = LetterSign.after (c .if1 .taken)

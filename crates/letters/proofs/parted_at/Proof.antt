@@ -2,9 +2,9 @@ use borrow.Author.Needs.{needs}
 use mir.Syntax.{w8}
 use mir.Facts.{toZ-ofZ}
 use Rattle.theory.specs.orders.CommonLength.{agree-unique}
-use Rattle.common.proofs.OrderLaws.{letters-ordered}
-use Rattle.common.proofs.order.parted_at.Statement.{statement}
-use Rattle.common.proofs.order.parted_at.Tie as tie
+use Rattle.letters.proofs.OrderLaws.{letters-ordered}
+use Rattle.letters.proofs.parted_at.Statement.{statement}
+use Rattle.letters.proofs.parted_at.Tie as tie
 
 shared-slice-read-letter-sign : tie.Need-shared-slice-read-letter-sign
 shared-slice-read-letter-sign c = search needs

@@ -5,10 +5,10 @@ use Prim.Native.Nat.{_+_, _-_, _%_, _≤_}
 use native.Mathlib.Omega.{arith}
 use lib.ListN.{length}
 use Rattle.theory.specs.orders.CommonLength.{Matched, matched-none}
-use Rattle.common.specs.Steps.{PartedAt}
+use Rattle.letters.specs.Steps.{PartedAt}
 use Rattle.common.proofs.NumberLaws.{equal-numbers, numbers-part}
-use Rattle.common.proofs.order.compare_words.Statement.{statement}
-use Rattle.common.proofs.order.compare_words.Tie as tie
+use Rattle.common.proofs.compare_words.Statement.{statement}
+use Rattle.common.proofs.compare_words.Tie as tie
 
 abbrev Inv-loop : tie.InvT-loop
 Inv-loop x y most whole l₀ l = Matched x y l × (l % 8 ≡ 0)

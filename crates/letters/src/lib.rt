@@ -1,11 +1,8 @@
-//! Two words in the inverse order, and how far they agree.
-use eights::eight_at;
-use eights::equal_bytes;
+//! Two words compared letter by letter: where they part, or that one is a prefix of the other, and which comes first in the inverse order.
 ghost use mathlib.Core.Path.{_≡_};
 ghost use Prim.Native.Nat.{min};
-ghost use Rattle.words.specs.Words.{commonLength};
 ghost use Rattle.theory.specs.orders.CommonLength.{Matched};
-ghost use Rattle.common.specs.Steps.{LetterSign, PrefixOrdered, PartedAt, Ordered};
+ghost use Rattle.letters.specs.Steps.{LetterSign, PrefixOrdered, PartedAt, Ordered};
 
 /// Two words x and y compared: −1 if x comes before y in the inverse order, 0 if they are the same, +1 otherwise; and the number of
 /// equal leading letters.
@@ -14,8 +11,8 @@ pub struct Order {
     pub common: usize,
 }
 
-// The smaller of two lengths.
-fn shorter(m: usize, n: usize) -> usize
+/// The smaller of two lengths.
+pub fn shorter(m: usize, n: usize) -> usize
     ensures { λ r. ⌜ r ≡ min m n ⌝ }
 {
     if m < n { m } else { n }
@@ -44,8 +41,8 @@ fn prefix_order(m: usize, n: usize) -> Order
     Order { sign: 0, common: n }
 }
 
-// Two words that part at l.
-fn parted_at(x: &[u8], y: &[u8], l: usize) -> Order
+/// Two words that part at l.
+pub fn parted_at(x: &[u8], y: &[u8], l: usize) -> Order
     requires { ⌜ PartedAt (now x) (now y) l ⌝ }
     ensures { λ r. ⌜ Ordered (now (x .entry)) (now (y .entry)) r ⌝ }
 {
@@ -55,8 +52,8 @@ fn parted_at(x: &[u8], y: &[u8], l: usize) -> Order
     }
 }
 
-// Compares two words with l equal leading letters, letter by letter from there.
-fn compare_from(x: &[u8], y: &[u8], l: usize) -> Order
+/// Compares two words with l equal leading letters, letter by letter from there.
+pub fn compare_from(x: &[u8], y: &[u8], l: usize) -> Order
     requires { ⌜ Matched (now x) (now y) l ⌝ }
     ensures { λ r. ⌜ Ordered (now (x .entry)) (now (y .entry)) r ⌝ }
 {
@@ -69,29 +66,4 @@ fn compare_from(x: &[u8], y: &[u8], l: usize) -> Order
         k += 1;
     }
     prefix_order(x.len(), y.len())
-}
-
-/// Compares two words: eight letters in a step where both have eight more, then one by one. The sign is read off at the first difference.
-pub fn compare_words(x: &[u8], y: &[u8]) -> Order
-    ensures { λ r. ⌜ Ordered (now (x .entry)) (now (y .entry)) r ⌝ }
-{
-    let most = shorter(x.len(), y.len());
-    let whole = most - most % 8;
-    let mut l: usize = 0;
-    while l < whole {
-        let v = eight_at(x, l);
-        let w = eight_at(y, l);
-        if v != w {
-            return parted_at(x, y, l + equal_bytes(v, w) as usize);
-        }
-        l += 8;
-    }
-    compare_from(x, y, l)
-}
-
-/// The number of equal leading letters of x and y.
-pub fn common_length(x: &[u8], y: &[u8]) -> usize
-    ensures { λ r. ⌜ r ≡ commonLength (now (x .entry)) (now (y .entry)) ⌝ }
-{
-    compare_words(x, y).common
 }

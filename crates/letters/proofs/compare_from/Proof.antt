@@ -3,9 +3,9 @@ use borrow.Author.Needs.{needs}
 use Prim.Native.Nat.{_-_}
 use native.Mathlib.Omega.{arith}
 use Rattle.theory.specs.orders.CommonLength.{Matched, matched-more}
-use Rattle.common.proofs.OrderLaws.{prefix-ordered}
-use Rattle.common.proofs.order.compare_from.Statement.{statement}
-use Rattle.common.proofs.order.compare_from.Tie as tie
+use Rattle.letters.proofs.OrderLaws.{prefix-ordered}
+use Rattle.letters.proofs.compare_from.Statement.{statement}
+use Rattle.letters.proofs.compare_from.Tie as tie
 
 abbrev Inv-loop : tie.InvT-loop
 Inv-loop x y l most k₀ k = Matched x y k

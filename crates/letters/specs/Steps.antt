@@ -7,7 +7,7 @@ use lib.IntN.{ℤ, pos, negsuc}
 use Rattle.words.specs.Words.{commonLength}
 use Rattle.theory.specs.orders.CommonLength.{Agree}
 use Rattle.theory.specs.orders.WordSigns.{SignOfWords}
-use Rattle.common.specs.declared.order.Order.{Order}
+use Rattle.letters.specs.declared.Order.{Order}
 
 -- both words have more than l letters, of which the first l are equal and the next two are not
 pub record PartedAt (x y : List ℕ) (l : ℕ) : Type 0 where

@@ -14,8 +14,8 @@ use Rattle.theory.specs.orders.Decisions.{Decides, holds, fails}
 use Rattle.theory.specs.orders.InverseLaws.{≺-≼, ≺-irrefl, ≺-not-≼}
 use Rattle.theory.specs.orders.CommonLength.{Matched, Agree, agree-unique, agree-sym, agree-same, agree-shorter, agree-≪, agree-≪-sym}
 use Rattle.theory.specs.orders.WordSigns.{SignOfWords, before, same, after}
-use Rattle.common.specs.declared.order.Order.{Order}
-use Rattle.common.specs.Steps.{LetterSign, PrefixSign, PrefixOrdered, PartedAt, Ordered}
+use Rattle.letters.specs.declared.Order.{Order}
+use Rattle.letters.specs.Steps.{LetterSign, PrefixSign, PrefixOrdered, PartedAt, Ordered}
 
 -- both go on, with letters that differ
 pub letters-ordered : {x y : List ℕ} {l : ℕ} {s : ℤ} → PartedAt x y l → LetterSign (getD x l 0) (getD y l 0) s → SignOfWords x y s
