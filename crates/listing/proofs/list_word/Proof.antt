@@ -26,7 +26,8 @@ both-at : (c : tie.After-entries)
     (later .count-of2 .result) (cut .last .1 .0) (cut .last .1 .1 .0) (later .before .before .before .cut2 .last .1 .0))
 both-at c =
     let later = c .before in
-    both-cut (start (at-cut later) .pre) (accepted-at (at-cut later .before .before .before .before)) (at-cut later .cut .ensures) (later .before .before .before .before .before .count-of .ensures)
+    both-cut (start (at-cut later) .pre) (accepted-at (at-cut later .before .before .before .before)) (at-cut later .cut .ensures)
+    (later .before .before .before .before .before .count-of .ensures)
     (c .entries .ensures) (later .before .before .before .cut2 .ensures) (later .count-of2 .ensures)
 
 check-record-requires : tie.Need-check-record-requires
@@ -67,7 +68,9 @@ count-of-requires-2 : tie.Need-count-of-requires-2
 count-of-requires-2 c κs = search needs
 
 entries-requires : tie.Need-entries-requires
-entries-requires c κs = pieces-few (accepted-at (at-cut c .before .before .before .before)) (at-cut c .cut .ensures) (c .before .before .before .before .before .count-of .ensures)
+entries-requires c κs =
+    pieces-few (accepted-at (at-cut c .before .before .before .before)) (at-cut c .cut .ensures)
+    (c .before .before .before .before .before .count-of .ensures)
 
 slice-reshare-prefix-write-result : tie.Need-slice-reshare-prefix-write-result
 slice-reshare-prefix-write-result c = both-at c .pairs-inside
