@@ -1,5 +1,5 @@
 //! Cards of pseudo-random records.
-use naive::part;
+use access::part;
 use samples::Run;
 use samples::random_batch;
 use trials::BATCH_BYTES;

@@ -1,11 +1,11 @@
 //! The groups of records, and the calls that are made on each.
-use naive::BREAK_ENTRIES;
-use naive::Call;
-use naive::RUN_ENTRIES;
-use naive::front;
-use naive::pair_with_ones;
-use naive::plus;
-use naive::set_letter;
+use access::BREAK_ENTRIES;
+use access::Call;
+use access::RUN_ENTRIES;
+use access::front;
+use access::pair_with_ones;
+use access::plus;
+use access::set_letter;
 use samples::LISTS;
 use samples::Run;
 use samples::random_record;

@@ -1,7 +1,7 @@
 //! The lines of the program: for each call on how many inputs it agreed with the second implementation, and on how many not.
+use access::Call;
+use access::plus;
 use libc::STDOUT_FILENO;
-use naive::Call;
-use naive::plus;
 use samples::Run;
 use samples::STATE;
 use samples::place;

@@ -9,6 +9,7 @@ mod printing; // lists of numbers and of pairs, refusals and answers
 mod refusals; // the refusals of every call
 mod repetitions; // the maximal repetitions
 
+use access::store_three;
 use batches::print_batches;
 use breaks::print_joins;
 use breaks::print_room_for_breaks;
@@ -18,7 +19,6 @@ use extension::Extension;
 use libc::STDOUT_FILENO;
 use lists::print_lists;
 use marks::print_marks;
-use naive::store_three;
 use printing::print_answer;
 use printing::print_list;
 use printing::print_pieces;

@@ -1,11 +1,11 @@
 //! Lists of numbers and of pairs, refusals and answers, as the lines have them.
+use access::entry;
+use access::front;
+use access::part_count;
+use access::part_end;
+use access::plus;
 use checks::Counted;
 use libc::STDOUT_FILENO;
-use naive::entry;
-use naive::front;
-use naive::part_count;
-use naive::part_end;
-use naive::plus;
 
 /// Numbers with commas between them.
 pub fn print_list(list: &[u16]) {

@@ -1,37 +1,17 @@
 //! A card of records by request 105's sentences: each record by itself, as a single call cuts it with what is left of the result buffer.
-use super::access::minus;
-use super::access::part;
-use super::access::plus;
-use super::access::store;
-use super::calls::Call;
 use super::calls::Room;
 use super::refusals::lent_refusal;
 use super::stretches::answer;
+use access::Call;
+use access::minus;
+use access::part;
+use access::plus;
+use access::record_end;
+use access::record_start;
+use access::store;
 
 /// The most records of a card.
 pub const RECORDS: usize = 64;
-
-fn wide(x: u32) -> usize {
-    x as usize
-}
-
-/// Where the record at place k ends, 0 where there is none.
-pub fn record_end(record_ends: &[u32], k: usize) -> usize {
-    if k < record_ends.len() {
-        wide(record_ends[k])
-    } else {
-        0
-    }
-}
-
-/// Where the record at place k begins.
-pub fn record_start(record_ends: &[u32], k: usize) -> usize {
-    if k == 0 {
-        0
-    } else {
-        record_end(record_ends, k - 1)
-    }
-}
 
 // Whether some end is below the one before it.
 fn falls(record_ends: &[u32]) -> bool {

@@ -1,18 +1,18 @@
 //! The breaks of the piece cut by paper 01's sentences: the test of what is left gives p and r, then what follows p is cut as a word by itself, and the
 //! length of its first piece against |r| says whether it is joined. A break has five entries: the place where p ends, the place where the step began,
 //! |r|; then a and b where p stands as a piece, 256 and |r| less the joined piece's length where it does not.
-use super::access::ENTRIES;
-use super::access::entry;
-use super::access::letter;
-use super::access::minus;
-use super::access::plus;
-use super::access::store;
-use super::access::tail;
 use super::extension::border;
 use super::extension::failing_by_trial;
 use super::extension::failing_length;
 use super::fold::pieces_by_fold;
 use super::pieces::pieces_by_definition;
+use access::ENTRIES;
+use access::entry;
+use access::letter;
+use access::minus;
+use access::plus;
+use access::store;
+use access::tail;
 
 // L of a word, 0 if it is inverse Lyndon: by the definition, or in the faster way.
 fn failing(word: &[u8], defined: bool) -> usize {

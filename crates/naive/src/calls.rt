@@ -1,7 +1,4 @@
-//! The calls by name, and what those that are lent buffers answer on a record without marks, as lists of numbers: in the faster ways and by the definitions.
-use super::access::minus;
-use super::access::plus;
-use super::access::store_three;
+//! What those calls that are lent buffers answer on a record without marks, as lists of numbers: in the faster ways and by the definitions.
 use super::breaks::write_breaks;
 use super::extension::border;
 use super::extension::failing_by_trial;
@@ -13,21 +10,10 @@ use super::strict::starts_by_longest;
 use super::strict::strict_by_longest;
 use super::suffixes::starts_by_suffixes;
 use super::suffixes::strict_by_suffixes;
-
-/// The calls that are compared.
-pub enum Call {
-    Test,
-    Pieces,
-    Breaks,
-    Strict,
-    Starts,
-    Repetitions,
-    Compare,
-    Common,
-    Part,
-    Summary,
-    Batch,
-}
+use access::Call;
+use access::minus;
+use access::plus;
+use access::store_three;
 
 /// Entries of the buffers of a call, those that it needs or those that it is lent: for its work, for its list, and for the breaks beside that.
 pub struct Room {

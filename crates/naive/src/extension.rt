@@ -1,9 +1,9 @@
 //! The test by the definitions: every suffix is compared, every length is tried.
-use super::access::letter;
-use super::access::minus;
-use super::access::plus;
 use super::order::agreeing;
 use super::order::natural_less;
+use access::letter;
+use access::minus;
+use access::plus;
 
 /// Whether the first n letters are an inverse Lyndon word: nonempty, and greater in the natural order than each proper suffix.
 pub fn is_inverse_lyndon(word: &[u8], n: usize) -> bool {

@@ -1,7 +1,7 @@
 //! The two orders, letter by letter, on the parts of a word from a start to a common end. The comparison of two such parts, and of two words by their
 //! longest common prefix.
-use super::access::letter;
-use super::access::plus;
+use access::letter;
+use access::plus;
 
 /// How many letters agree from i on and from j on, before `end`.
 pub fn agreeing(word: &[u8], end: usize, i: usize, j: usize) -> usize {

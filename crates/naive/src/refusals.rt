@@ -1,11 +1,11 @@
 //! Paper 01's table of refusals, with the lines that requests add. Each function gives the number of the first line that is met, 0 for none.
-use super::calls::Call;
 use super::calls::Room;
-use super::parts::part_count;
-use super::parts::part_end;
-use super::parts::part_length;
-use super::parts::part_start;
 use super::stretches::refuses_separator;
+use access::Call;
+use access::part_count;
+use access::part_end;
+use access::part_length;
+use access::part_start;
 
 // A line of the table: its number where it is met, else what the lines below it say.
 fn line(met: bool, number: u8, below: u8) -> u8 {

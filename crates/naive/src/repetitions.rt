@@ -1,10 +1,10 @@
 //! The maximal repetitions (runs) of a word without marks, by first place and then by period. A run has three entries: its first place, its end and its
 //! period. By the definition every part of the word is tried; in the faster way every period from each place.
-use super::access::letter;
-use super::access::minus;
-use super::access::plus;
-use super::access::store;
 use super::order::agreeing;
+use access::letter;
+use access::minus;
+use access::plus;
+use access::store;
 
 // Whether the part from `first` to `end` has a period.
 fn has_period(word: &[u8], first: usize, end: usize, period: usize) -> bool {

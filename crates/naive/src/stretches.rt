@@ -1,20 +1,18 @@
 //! Records with marks. A byte 255 is no level but a mark: a piece and a strict piece of its own, with 1 in the start table, and in no repetition. A
 //! stretch is what stands between two neighbouring marks, or between a mark and an edge of the record. Each one that is not empty is cut as a record by
 //! itself, and what is found is then put in the record's places.
-use super::access::ENTRIES;
-use super::access::entry;
-use super::access::front;
-use super::access::plus;
-use super::access::store;
-use super::calls::Call;
 use super::calls::Room;
 use super::calls::breaks_of;
 use super::calls::list_of;
 use super::calls::needed;
-use super::pairing::pair_with_strict;
-
-/// The mark.
-pub const SEPARATOR: u8 = 255;
+use access::Call;
+use access::ENTRIES;
+use access::SEPARATOR;
+use access::entry;
+use access::front;
+use access::pair_with_strict;
+use access::plus;
+use access::store;
 
 /// The first place from `from` on that has a mark; the record's length if there is none.
 pub fn next_separator(word: &[u8], from: usize) -> usize {

@@ -1,11 +1,11 @@
 //! The strict cut and the start table by suffixes of the whole word: a longest anti-Lyndon word ends where the next suffix begins that comes before
 //! the suffix at its start.
-use super::access::ENTRIES;
-use super::access::entry;
-use super::access::minus;
-use super::access::plus;
-use super::access::store;
 use super::order::inverse_before;
+use access::ENTRIES;
+use access::entry;
+use access::minus;
+use access::plus;
+use access::store;
 
 /// Writes the ends of the strict cut: the starts of the suffixes that come before all longer ones, and the length. Answers their number.
 pub fn strict_by_suffixes(word: &[u8], ends: &mut [u16]) -> usize {

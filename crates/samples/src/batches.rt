@@ -2,9 +2,9 @@
 use super::records::random_record;
 use super::run::Run;
 use super::run::draw;
-use naive::minus;
-use naive::plus;
-use naive::record_end;
+use access::minus;
+use access::plus;
+use access::record_end;
 
 /// How much of a card is lent.
 pub struct Lent {

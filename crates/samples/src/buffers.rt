@@ -1,7 +1,7 @@
 //! Buffers filled before a call, and looked through after it.
-use naive::entry;
-use naive::plus;
-use naive::store;
+use access::entry;
+use access::plus;
+use access::store;
 
 /// Fills the whole buffer with the numbers above `salt`, one after the other.
 pub fn fill(list: &mut [u16], salt: usize) {

@@ -2,11 +2,11 @@
 use super::run::Run;
 use super::run::draw;
 use super::shapes::spell;
-use naive::SEPARATOR;
-use naive::letter;
-use naive::minus;
-use naive::plus;
-use naive::set_letter;
+use access::SEPARATOR;
+use access::letter;
+use access::minus;
+use access::plus;
+use access::set_letter;
 
 /// Where the marks of a record stand.
 pub enum Marks {

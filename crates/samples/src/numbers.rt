@@ -1,14 +1,14 @@
 //! Numbers at boundaries, and the paired lists made of them.
 use super::buffers::fill;
 use super::shapes::spell;
-use naive::letter;
-use naive::minus;
-use naive::pair_with_ones;
-use naive::part_length;
-use naive::plus;
-use naive::set_count;
-use naive::store;
-use naive::store_three;
+use access::letter;
+use access::minus;
+use access::pair_with_ones;
+use access::part_length;
+use access::plus;
+use access::set_count;
+use access::store;
+use access::store_three;
 
 /// Eight numbers about a and b: one above a, then 0, one below b, b, one above it, the largest number, a, and one below it. Each use takes neighbours of
 /// this order.

@@ -7,9 +7,9 @@ use super::run::Run;
 use super::run::draw;
 use super::shapes::Shape;
 use super::shapes::write;
-use naive::minus;
-use naive::plus;
-use naive::set_letter;
+use access::minus;
+use access::plus;
+use access::set_letter;
 
 // 2 letters, 3, 4, or at random up to 256.
 fn alphabet(run: &mut Run) -> usize {

@@ -1,10 +1,10 @@
 //! Records of a shape, written to the first n letters.
 use super::run::Run;
 use super::run::draw;
-use naive::letter;
-use naive::minus;
-use naive::plus;
-use naive::set_letter;
+use access::letter;
+use access::minus;
+use access::plus;
+use access::set_letter;
 
 /// What the letters of a record are.
 pub enum Shape {

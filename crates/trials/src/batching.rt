@@ -1,16 +1,16 @@
 //! The card of records: all its answers, and every entry of the buffers that it is lent.
+use access::Call;
+use access::ENTRIES;
+use access::entry;
+use access::front;
+use access::minus;
+use access::plus;
+use access::record_end;
+use access::record_start;
 use batch::Batch;
 use checks::Counted;
-use naive::Call;
-use naive::ENTRIES;
 use naive::RECORDS;
 use naive::Room;
-use naive::entry;
-use naive::front;
-use naive::minus;
-use naive::plus;
-use naive::record_end;
-use naive::record_start;
 use samples::Run;
 use samples::draw;
 use samples::fill;

@@ -1,9 +1,9 @@
 //! The comparison, and that of two words alone with how far they agree.
+use access::minus;
+use access::part;
+use access::plus;
 use compare::Comparison;
 use naive::Compared;
-use naive::minus;
-use naive::part;
-use naive::plus;
 use samples::Run;
 use samples::about;
 use samples::draw;
@@ -89,12 +89,12 @@ pub fn agrees(word: &[u8], pairs: &[u16], code: usize, run: &mut Run) -> bool {
     let first = if code < 8 {
         from
     } else {
-        naive::part_start(pairs, from)
+        access::part_start(pairs, from)
     };
     let end = if code < 8 {
         plus(last, 1)
     } else {
-        naive::part_end(pairs, last)
+        access::part_end(pairs, last)
     };
     let start = plus(first, draw(run, minus(end, first)));
     let other = plus(first, draw(run, minus(end, first)));

@@ -2,7 +2,7 @@
 use super::comparing;
 use super::lending;
 use super::parting;
-use naive::Call;
+use access::Call;
 use samples::Run;
 use samples::note;
 

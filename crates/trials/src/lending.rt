@@ -1,17 +1,17 @@
 //! The calls that are lent buffers, with every entry of these: the test, the piece cut alone and with its breaks, the strict cut, the start table, the
 //! maximal repetitions.
+use access::BREAK_ENTRIES;
+use access::Call;
+use access::ENTRIES;
+use access::RUN_ENTRIES;
+use access::front;
+use access::plus;
+use access::store_three;
 use checks::Counted;
 use extension::Extension;
 use icfl_breaks::CountedBreaks;
-use naive::BREAK_ENTRIES;
-use naive::Call;
-use naive::ENTRIES;
-use naive::RUN_ENTRIES;
 use naive::Room;
-use naive::front;
 use naive::needed;
-use naive::plus;
-use naive::store_three;
 use samples::about;
 use samples::fill;
 use samples::is_left;

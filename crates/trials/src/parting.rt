@@ -1,9 +1,9 @@
 //! The reader and the summary.
-use naive::PAIR_ENTRIES;
-use naive::entry;
-use naive::front;
-use naive::minus;
-use naive::tail;
+use access::PAIR_ENTRIES;
+use access::entry;
+use access::front;
+use access::minus;
+use access::tail;
 use samples::about;
 use samples::write_list;
 use summary::Summary;
@@ -13,9 +13,9 @@ pub fn part_agrees(word: &[u8], pairs: &[u16], number: usize) -> bool {
     let mut told: u8 = 200;
     let part = reading::factor_at(word, pairs, number, &mut told);
     let refused = naive::part_refusal(word.len(), pairs, number);
-    let from = naive::part_start(pairs, number);
+    let from = access::part_start(pairs, number);
     let end = if refused == 0 {
-        naive::part_end(pairs, number)
+        access::part_end(pairs, number)
     } else {
         from
     };
@@ -27,7 +27,7 @@ pub fn part_agrees(word: &[u8], pairs: &[u16], number: usize) -> bool {
 fn are_bands(bands: &[u16], pairs: &[u16]) -> bool {
     let mut k: usize = 0;
     while k < 13 {
-        if entry(bands, k) != naive::in_band(pairs, k + 1) {
+        if entry(bands, k) != access::in_band(pairs, k + 1) {
             return false;
         }
         k += 1;
@@ -37,8 +37,8 @@ fn are_bands(bands: &[u16], pairs: &[u16]) -> bool {
 
 // Whether the numbers of a summary are those of the parts.
 fn is_summary(summary: Summary, pairs: &[u16]) -> bool {
-    let longest = naive::longest(pairs);
-    let from = naive::latest(pairs, longest);
+    let longest = access::longest(pairs);
+    let from = access::latest(pairs, longest);
     let bands = summary.bands;
     let placed = (summary.longest as usize == longest) & (summary.from as usize == from);
     placed & (summary.count as usize == pairs.len() / 2) & are_bands(&bands, pairs)

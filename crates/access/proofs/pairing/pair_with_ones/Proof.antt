@@ -2,8 +2,8 @@
 use borrow.Author.Needs.{needs}
 use mathlib.Core.Path.{_≡_}
 use lib.ListN.{length}
-use Rattle.naive.proofs.pairing.pair_with_ones.Statement.{statement}
-use Rattle.naive.proofs.pairing.pair_with_ones.Tie as tie
+use Rattle.access.proofs.pairing.pair_with_ones.Statement.{statement}
+use Rattle.access.proofs.pairing.pair_with_ones.Tie as tie
 
 abbrev Inv-loop : tie.InvT-loop
 Inv-loop list₀ count k₀ list k = length list ≡ length list₀

@@ -1,7 +1,7 @@
 -- Safe and ending: the loop's measure is what is left.
 use borrow.Author.Needs.{needs}
-use Rattle.naive.proofs.parts.latest.Statement.{statement}
-use Rattle.naive.proofs.parts.latest.Tie as tie
+use Rattle.access.proofs.parts.latest.Statement.{statement}
+use Rattle.access.proofs.parts.latest.Tie as tie
 
 abbrev Inv-loop : tie.InvT-loop
 Inv-loop pairs size k₀ k = Unit {0}

@@ -2,8 +2,8 @@
 use borrow.Author.Needs.{needs}
 use Prim.Native.Nat.{_-_}
 use lib.ListN.{length}
-use Rattle.naive.proofs.pairing.strict_inside.Statement.{statement}
-use Rattle.naive.proofs.pairing.strict_inside.Tie as tie
+use Rattle.access.proofs.pairing.strict_inside.Statement.{statement}
+use Rattle.access.proofs.pairing.strict_inside.Tie as tie
 
 abbrev Inv-loop : tie.InvT-loop
 Inv-loop strict from to inside₀ i₀ inside i = Unit {0}

@@ -2,8 +2,8 @@
 use borrow.Author.Needs.{needs}
 use Prim.Native.Nat.{_-_, _/_}
 use lib.ListN.{length}
-use Rattle.naive.proofs.parts.longest.Statement.{statement}
-use Rattle.naive.proofs.parts.longest.Tie as tie
+use Rattle.access.proofs.parts.longest.Statement.{statement}
+use Rattle.access.proofs.parts.longest.Tie as tie
 
 abbrev Inv-loop : tie.InvT-loop
 Inv-loop pairs most₀ k₀ most k = Unit {0}

@@ -1,7 +1,7 @@
 //! Paired lists (request 108) made of lists of ends: beside each end a count.
-use super::access::entry;
-use super::access::plus;
-use super::access::store;
+use super::entries::entry;
+use super::entries::plus;
+use super::entries::store;
 use super::parts::part_end;
 use super::parts::part_start;
 use super::parts::set_count;

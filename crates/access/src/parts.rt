@@ -1,8 +1,8 @@
 //! The parts that a paired list marks, an end and a count each; every number of their summary by a pass of its own.
-use super::access::entry;
-use super::access::minus;
-use super::access::plus;
-use super::access::store;
+use super::entries::entry;
+use super::entries::minus;
+use super::entries::plus;
+use super::entries::store;
 
 /// Where part k ends.
 pub fn part_end(pairs: &[u16], k: usize) -> usize {

@@ -3,8 +3,8 @@ use borrow.Author.Needs.{needs}
 use mathlib.Core.Path.{_≡_}
 use Prim.Native.Nat.{_-_}
 use lib.ListN.{length}
-use Rattle.naive.proofs.pairing.pair_with_strict.Statement.{statement}
-use Rattle.naive.proofs.pairing.pair_with_strict.Tie as tie
+use Rattle.access.proofs.pairing.pair_with_strict.Statement.{statement}
+use Rattle.access.proofs.pairing.pair_with_strict.Tie as tie
 
 abbrev Inv-loop : tie.InvT-loop
 Inv-loop list₀ count strict entries k₀ list k = length list ≡ length list₀

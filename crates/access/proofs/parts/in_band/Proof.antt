@@ -2,8 +2,8 @@
 use borrow.Author.Needs.{needs}
 use Prim.Native.Nat.{_-_, _/_}
 use lib.ListN.{length}
-use Rattle.naive.proofs.parts.in_band.Statement.{statement}
-use Rattle.naive.proofs.parts.in_band.Tie as tie
+use Rattle.access.proofs.parts.in_band.Statement.{statement}
+use Rattle.access.proofs.parts.in_band.Tie as tie
 
 abbrev Inv-loop : tie.InvT-loop
 Inv-loop pairs digits count₀ k₀ count k = Unit {0}

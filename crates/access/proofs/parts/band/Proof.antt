@@ -1,7 +1,7 @@
 -- Safe and ending: the loop's measure is what is left.
 use borrow.Author.Needs.{needs}
-use Rattle.naive.proofs.parts.band.Statement.{statement}
-use Rattle.naive.proofs.parts.band.Tie as tie
+use Rattle.access.proofs.parts.band.Statement.{statement}
+use Rattle.access.proofs.parts.band.Tie as tie
 
 abbrev Inv-loop : tie.InvT-loop
 Inv-loop length rest₀ halvings₀ rest halvings = Unit {0}

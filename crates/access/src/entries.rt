@@ -1,5 +1,8 @@
 //! Letters and entries at a place, sums and differences, each defined for all arguments.
 
+/// The mark.
+pub const SEPARATOR: u8 = 255;
+
 /// Room for the list of the longest record that is tried, 4,097 letters, and for some entries more.
 pub const ENTRIES: usize = 4110;
 

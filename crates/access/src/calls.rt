@@ -1,0 +1,16 @@
+//! The calls by name.
+
+/// The calls that are compared.
+pub enum Call {
+    Test,
+    Pieces,
+    Breaks,
+    Strict,
+    Starts,
+    Repetitions,
+    Compare,
+    Common,
+    Part,
+    Summary,
+    Batch,
+}
