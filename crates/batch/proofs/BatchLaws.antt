@@ -16,16 +16,16 @@ use Rattle.words.specs.Pairs.{separatedPairs}
 use Rattle.theory.specs.places.EndsRise.{rises-few}
 use Rattle.theory.specs.stretches.Factors.{separated-icfl-ends-rise}
 use Rattle.conditions.specs.Conditions.{lastOf, falls, faultyRecordEnds}
-use Rattle.checks.specs.Lines.{Door, tried, decided, resultLine}
-use Rattle.checks.specs.Answers.{numberOf, countChecked}
+use Rattle.checks.specs.Lines.{Door, tried, resultLine}
+use Rattle.checks.specs.Answers.{numberOf, Says, refuses, checked, countSays}
 use Rattle.checks.specs.declared.Checked.{Checked}
 use Rattle.checks.specs.declared.Checked.the-variants.{Passed, Refused}
 use Rattle.checks.specs.declared.Counted.{Counted}
-use Rattle.checks.proofs.LineLaws.{not-both, all-pass, first-alone, every-joined, number-tested, unmet}
+use Rattle.checks.proofs.LineLaws.{not-both, all-pass, first-alone, said, every-joined, number-tested, unmet}
 use Rattle.conditions.proofs.RecordEndsLaws.{Climbs, climbs-head, climbs-tail, climbs-most, listed}
 use Rattle.icfl.specs.Icfl.{icflLines, icflAnswer, IcflDone}
 use Rattle.icfl.proofs.IcflCases.{workLines, NoFour}
-use Rattle.batch.specs.Batch.{recordsFrom, Progress, cutRecord, cutRecords, uncut, batchOf, batchWith, batchLines, BatchDone}
+use Rattle.batch.specs.Batch.{recordsFrom, Progress, cutRecord, cutRecords, uncut, batchOf, batchSays, batchWith, batchLines, BatchDone}
 use Rattle.batch.specs.BatchStatements.{Left}
 use Rattle.batch.specs.declared.Batch.{Batch}
 use Rattle.batch.proofs.FoldLaws.{left, added, batch-answers, Every, folded-work, folded-pairs, written-drop, Fits, linesOf, entries-are, cutBy, fits-by}
@@ -42,8 +42,8 @@ batch-left {door} {bytes} {es} {work} {pairs} d p = rw (batch-answers door bytes
 
 -- ---- enough entries
 
-abbrev pub NotByFour : Counted → Type 0
-NotByFour a = ¬ (a ≡ Counted.Refused 4)
+abbrev pub NotByFour : Says ℕ → Type 0
+NotByFour a = ¬ (a ≡ refuses 4)
 
 few-entries : (w : List ℕ) → 2 * length (separatedIcflEnds w) ≤ 2 * length w
 few-entries w = omega (arith, rises-few (separated-icfl-ends-rise w))
@@ -57,13 +57,9 @@ single-fits door no-four w work pairs l x =
     let room = all-pass more (le-ltb (length pairs) (2 * length (separatedIcflEnds w)) (omega (arith, few-entries w)), tt) in
     let alone : tried (lines ++ more) ≡ tried lines = first-alone lines more (λ h. room) in
     let split : tried (door w ++ icflLines w (length work) (length pairs)) ≡ tried (lines ++ more) = ap tried (sym (append-assoc (door w) _ more)) in
-    never (sym alone ∙ (sym split ∙ (sym (said (tried (door w ++ icflLines w (length work) (length pairs)))) ∙ ap countChecked x)))
+    never (sym alone ∙ (sym split ∙ (sym (said _ (tried (door w ++ icflLines w (length work) (length pairs))) refl) ∙ ap checked x)))
     (number-tested (λ m. not (eqb m 4)) lines (every-joined (λ m. not (eqb m 4)) (door w) (workLines w (length work)) (no-four w) refl))
   where
-    said : (k : Checked) → countChecked (decided k (Counted.Count (length (separatedIcflEnds w))) Counted.Refused) ≡ k
-    said Passed = refl
-    said (Refused number) = refl
-
     never : {k : Checked} → k ≡ Refused 4 → ((k ≡ Passed) ⊎ (not (eqb (numberOf k) 4) ≡ true)) → ⊥
     never e (inl p) = not-both e p
     never e (inr t) = true≢false (sym (rw e at t))
@@ -113,22 +109,23 @@ module _ (door : Door) (w work pairs : List ℕ) where
   one-cut = ap (cutRecord door (uncut work pairs)) (take-all (length w) w (omega arith))
 
   pub single-batch : {work′ pairs′ : List ℕ} {r : Batch} → BatchDone door w (length w ∷ []) work pairs r work′ pairs′
-      → (r ≡ batchWith 0 (icflAnswer (door w) w work pairs ∷ [])) × IcflDone (door w) w work pairs (icflAnswer (door w) w work pairs) work′ pairs′
+      → (batchSays r ≡ batchWith 0 (icflAnswer (door w) w work pairs ∷ []))
+      × ((a : Counted) → countSays a ≡ icflAnswer (door w) w work pairs → IcflDone (door w) w work pairs a work′ pairs′)
   unfolding cutRecord
   single-batch d = (
     (rw (one-passes w) at (d .answer)) ∙ ap (λ (p : Progress). batchWith 0 (p .answers)) one-cut,
-    record {
-      answer = refl;
+    λ a e. record {
+      answer = e;
       result = (rw (one-passes w) at (d .result)) ∙ ap (λ (p : Progress). p .pairs) one-cut;
       worked = (rw (one-passes w) at (d .worked)) ∙ ap (λ (p : Progress). p .work) one-cut;
     },
   )
 
-  pub batch-single : {a : Counted} {work′ pairs′ : List ℕ} → IcflDone (door w) w work pairs a work′ pairs′
-      → BatchDone door w (length w ∷ []) work pairs (batchWith 0 (a ∷ [])) work′ pairs′
+  pub batch-single : {a : Counted} {work′ pairs′ : List ℕ} → IcflDone (door w) w work pairs a work′ pairs′ → (r : Batch)
+      → batchSays r ≡ batchWith 0 (countSays a ∷ []) → BatchDone door w (length w ∷ []) work pairs r work′ pairs′
   unfolding cutRecord
-  batch-single {a} d = record {
-    answer = rw (one-passes w) (ap (λ (x : Counted). batchWith 0 (x ∷ [])) (d .answer)
+  batch-single {a} d r e = record {
+    answer = rw (one-passes w) (e ∙ ap (λ (x : Says ℕ). batchWith 0 (x ∷ [])) (d .answer)
         ∙ ap (λ (p : Progress). batchWith 0 (p .answers)) (sym one-cut));
     result = rw (one-passes w) (d .result ∙ ap (λ (p : Progress). p .pairs) (sym one-cut));
     worked = rw (one-passes w) (d .worked ∙ ap (λ (p : Progress). p .work) (sym one-cut));

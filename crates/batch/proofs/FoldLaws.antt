@@ -17,7 +17,7 @@ use Rattle.buffers.proofs.BufferLaws.{cleared-twice}
 use Rattle.checks.specs.Lines.{Line, Door, tried, decided}
 use Rattle.checks.specs.declared.Checked.{Checked}
 use Rattle.checks.specs.declared.Checked.the-variants.{Passed, Refused}
-use Rattle.checks.specs.declared.Counted.{Counted}
+use Rattle.checks.specs.Answers.{Says, gives, refuses}
 use Rattle.icfl.specs.Icfl.{icflLines, workAfter, icflAnswer, icflWork}
 use Rattle.batch.specs.Batch.{Progress, entriesUsed, cutRecord, cutRecords, recordsFrom, uncut, batchOf}
 use Rattle.batch.specs.BatchStatements.{wasCut, longestCut, packedPairs}
@@ -29,7 +29,7 @@ abbrev pub left : Progress → List ℕ
 left p = drop (p .used) (p .pairs)
 
 -- the answers that the records add
-unfoldable pub added : Door → Progress → List (List ℕ) → List Counted
+unfoldable pub added : Door → Progress → List (List ℕ) → List (Says ℕ)
 unfolding cutRecord
 added door p [] = []
 added door p (w ∷ ws) = icflAnswer (door w) w (p .work) (left p) ∷ added door (cutRecord door p w) ws
@@ -58,11 +58,11 @@ batch-count door bytes es work pairs =
     ap length (batch-answers door bytes es work pairs) ∙ added-length door (uncut work pairs) (recordsFrom 0 es bytes) ∙ records-count 0 es bytes
 
 -- P holds of each answer
-abbrev pub Every : (Counted → Type 0) → List Counted → Type 0
+abbrev pub Every : (Says ℕ → Type 0) → List (Says ℕ) → Type 0
 Every P [] = Unit {0}
 Every P (a ∷ answers) = P a × Every P answers
 
-pub every-added : (door : Door) (P : Counted → Type 0) → ((w work pairs : List ℕ) → P (icflAnswer (door w) w work pairs))
+pub every-added : (door : Door) (P : Says ℕ → Type 0) → ((w work pairs : List ℕ) → P (icflAnswer (door w) w work pairs))
     → (p : Progress) (ws : List (List ℕ)) → Every P (added door p ws)
 unfolding added
 every-added door P h p [] = tt
@@ -80,7 +80,7 @@ single-work door w work pairs = go (tried (door w ++ icflLines w (length work) (
     by-four false = refl
 
     go : (k : Checked) → decided k (cleared (3 * length w) work) (workAfter (3 * length w) work)
-        ≡ cleared (3 * (elim (wasCut (decided k (Counted.Count (length (separatedIcflEnds w))) Counted.Refused)) [ true ↦ length w | false ↦ 0 ])) work
+        ≡ cleared (3 * (elim (wasCut (decided k (gives (length (separatedIcflEnds w))) refuses)) [ true ↦ length w | false ↦ 0 ])) work
     go Passed = refl
     go (Refused number) = by-four (eqb number 4)
 
@@ -126,8 +126,8 @@ Fits p = p .used ≤ length (p .pairs)
 abbrev pub linesOf : Door → Progress → List ℕ → List Line
 linesOf door p w = door w ++ icflLines w (length (p .work)) (length (left p))
 
-abbrev pub answerBy : Checked → List ℕ → Counted
-answerBy k w = decided k (Counted.Count (length (separatedIcflEnds w))) Counted.Refused
+abbrev pub answerBy : Checked → List ℕ → Says ℕ
+answerBy k w = decided k (gives (length (separatedIcflEnds w))) refuses
 
 -- the entries of a record that was cut
 pub entries-are : (w : List ℕ) → 2 * length (separatedIcflEnds w) ≡ length (separatedPairs w)

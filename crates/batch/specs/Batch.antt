@@ -6,7 +6,7 @@ use lib.ListN.{length, take, drop, replicate}
 use lib.Seq.{slice}
 use Rattle.conditions.specs.Conditions.{mostRecords}
 use Rattle.checks.specs.Lines.{Line, Door, _unless_then_, recordEndsLine}
-use Rattle.checks.specs.declared.Counted.{Counted}
+use Rattle.checks.specs.Answers.{Says, gives, refuses, countSays}
 use Rattle.icfl.specs.Icfl.{icflAnswer, icflResult, icflWork}
 use Rattle.batch.specs.declared.Batch.{Batch}
 use Rattle.batch.specs.declared.Place.{Place}
@@ -20,15 +20,15 @@ recordsFrom a (e ∷ es) bytes = slice a e bytes ∷ recordsFrom e es bytes
 
 -- a batch in the middle of its cutting: the answers so far, both buffers, and how many entries of the result buffer are used
 pub record Progress : Type 0 where
-  pub answers : List Counted
+  pub answers : List (Says ℕ)
   pub work : List ℕ
   pub pairs : List ℕ
   pub used : ℕ
 
 -- the entries that an answer uses, a pair for each piece (request 108); "A refused record uses none of it"
-abbrev pub entriesUsed : Counted → ℕ
-entriesUsed (Counted.Count n) = 2 * n
-entriesUsed (Counted.Refused number) = 0
+abbrev pub entriesUsed : Says ℕ → ℕ
+entriesUsed (gives n) = 2 * n
+entriesUsed (refuses number) = 0
 
 -- the next record, cut behind the lines of a door: "Each record's answer, refusal included, is the one a single call gives with what is left of the result
 -- buffer."
@@ -57,15 +57,20 @@ batchOf door bytes es work pairs = cutRecords door (uncut work pairs) (recordsFr
 
 -- ---- the call
 
-abbrev pub place : Counted → Place
-place answer = record { answer = answer }
+-- what each place says
+abbrev pub saysOf : List Place → List (Says ℕ)
+saysOf places = map (λ place. countSays (place .answer)) places
+
+-- what an answer says: the refusal's number, 0 for none, and beside it the places
+abbrev pub batchSays : Batch → ℕ × List (Says ℕ)
+batchSays r = (r .refusal, saysOf (r .places))
 
 -- "The answers come in the card's order, in 64 places; those past the last record hold a result of 0."
-abbrev pub placesOf : List Counted → List Place
-placesOf answers = map place answers ++ replicate (mostRecords - length answers) (place (Counted.Count 0))
+abbrev pub placesOf : List (Says ℕ) → List (Says ℕ)
+placesOf answers = answers ++ replicate (mostRecords - length answers) (gives 0)
 
-abbrev pub batchWith : ℕ → List Counted → Batch
-batchWith number answers = record { refusal = number; places = placesOf answers }
+abbrev pub batchWith : ℕ → List (Says ℕ) → ℕ × List (Says ℕ)
+batchWith number answers = (number, placesOf answers)
 
 -- 10, "checked before any record"
 abbrev pub batchLines : List ℕ → ℕ → List Line
@@ -73,6 +78,6 @@ batchLines es n = recordEndsLine es n ∷ []
 
 -- the call's promise, each record cut behind a door: its answer, 0 or 10 with all places (with 10 all hold "a result of 0"), and both buffers whole
 pub record BatchDone (door : Door) (bytes es work pairs : List ℕ) (r : Batch) (work′ pairs′ : List ℕ) : Type 0 where
-  pub answer : r ≡ batchWith 0 (batchOf door bytes es work pairs .answers) unless batchLines es (length bytes) then (λ number. batchWith number [])
+  pub answer : batchSays r ≡ batchWith 0 (batchOf door bytes es work pairs .answers) unless batchLines es (length bytes) then (λ number. batchWith number [])
   pub result : pairs′ ≡ batchOf door bytes es work pairs .pairs unless batchLines es (length bytes) then (λ number. pairs)
   pub worked : work′ ≡ batchOf door bytes es work pairs .work unless batchLines es (length bytes) then (λ number. work)

@@ -8,7 +8,7 @@ use Rattle.words.specs.Separated.{separatedIcflEnds}
 use Rattle.words.specs.Pairs.{separatedPairs}
 use Rattle.conditions.specs.Conditions.{lastOf, falls, faultyRecordEnds}
 use Rattle.checks.specs.Lines.{tried, recordLines}
-use Rattle.checks.specs.declared.Counted.the-variants.{Count, Refused}
+use Rattle.checks.specs.Answers.{gives, refuses}
 use Rattle.batch.specs.Batch.{recordsFrom, Progress, cutRecord, cutRecords, batchOf}
 
 -- a b | (nothing) | b b a, with a work buffer of ten entries 7 and a result buffer of seven entries 8
@@ -20,10 +20,10 @@ abbrev short : Progress
 short = batchOf recordLines (97 ∷ 98 ∷ 98 ∷ 97 ∷ []) (2 ∷ 4 ∷ []) (replicate 7 7) (8 ∷ 8 ∷ [])
 
 pub record Examples : Type 0 where
-  pub answers : three .answers ≡ Count 2 ∷ Refused 1 ∷ Count 1 ∷ []
+  pub answers : three .answers ≡ gives 2 ∷ refuses 1 ∷ gives 1 ∷ []
   pub pairs : three .pairs ≡ 1 ∷ 1 ∷ 2 ∷ 1 ∷ 3 ∷ 1 ∷ 8 ∷ []
   pub work : three .work ≡ 0 ∷ 0 ∷ 0 ∷ 0 ∷ 0 ∷ 0 ∷ 0 ∷ 0 ∷ 0 ∷ 7 ∷ []
-  pub still-tried : short .answers ≡ Refused 4 ∷ Count 1 ∷ []
+  pub still-tried : short .answers ≡ refuses 4 ∷ gives 1 ∷ []
   pub still-written : short .pairs ≡ 2 ∷ 1 ∷ []
   pub short-work : short .work ≡ 0 ∷ 0 ∷ 0 ∷ 0 ∷ 0 ∷ 0 ∷ 7 ∷ []
   pub no-end : faultyRecordEnds [] 0 ≡ true

@@ -6,6 +6,7 @@ ghost use mathlib.Core.Path.{_≡_};
 ghost use Prim.Native.Nat.{_*_, _≤_};
 ghost use Rattle.words.specs.Words.{mostLetters};
 ghost use Rattle.checks.specs.Lines.{recordLines};
+ghost use Rattle.checks.specs.Answers.{countSays};
 ghost use Rattle.batch.specs.Batch.{entriesUsed, BatchDone};
 
 /// What the piece cut answers for one record.
@@ -21,8 +22,8 @@ pub struct Batch {
 
 // The entries of the result buffer that an answer uses: a pair for each factor.
 fn entries_used(answer: Counted) -> usize
-    requires { ⌜ entriesUsed answer ≤ 2 * mostLetters ⌝ }
-    ensures { λ r. ⌜ r ≡ entriesUsed answer ⌝ }
+    requires { ⌜ entriesUsed (countSays answer) ≤ 2 * mostLetters ⌝ }
+    ensures { λ r. ⌜ r ≡ entriesUsed (countSays answer) ⌝ }
 {
     match answer {
         Counted::Count(n) => pairs::entries(n),

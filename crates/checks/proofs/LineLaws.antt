@@ -21,7 +21,7 @@ use Rattle.checks.specs.declared.Checked.{Checked}
 use Rattle.checks.specs.declared.Checked.the-variants.{Passed, Refused}
 use Rattle.checks.specs.declared.Counted.{Counted}
 use Rattle.checks.specs.Lines.{Line, _when_, tried, decided, _unless_then_}
-use Rattle.checks.specs.Answers.{numberOf, numbered, firstOf, Filled}
+use Rattle.checks.specs.Answers.{numberOf, numbered, firstOf, Says, gives, refuses, checked, countSays, Filled}
 
 -- ---- a check k: the two branches of `let Checked::Passed = k else`
 
@@ -131,11 +131,24 @@ pub reading : {A B : Type 0} (f : A → B) (result : A) (refusal : ℕ → A) (k
 reading f result refusal Passed = refl
 reading f result refusal (Refused number) = refl
 
--- what an answer says is what the check said
-pub said : {A : Type 0} (f : A → Checked) (result : A) (refusal : ℕ → A) → f result ≡ Passed → ((number : ℕ) → f (refusal number) ≡ Refused number)
-    → (k : Checked) → f (decided k result refusal) ≡ k
-said f result refusal p q Passed = p
-said f result refusal p q (Refused number) = q number
+-- an answer says what the check said
+pub said : {A : Type 0} (values : A) (k : Checked) {s : Says A} → s ≡ decided k (gives values) refuses → checked s ≡ k
+said values Passed e = ap checked e
+said values (Refused number) e = ap checked e
+
+-- and so it is a result with these values just where the check passed
+pub gave : {A : Type 0} (values : A) (k : Checked) {s : Says A} → s ≡ decided k (gives values) refuses → checked s ≡ Passed → (k ≡ Passed) × (s ≡ gives values)
+gave values Passed e p = (refl, e)
+gave values (Refused number) e p = absurd (not-both (ap checked e) p)
+
+-- an answer is known by what it says
+pub count-given : (r : Counted) {n : ℕ} → countSays r ≡ gives n → r ≡ Counted.Count n
+count-given (Counted.Count m) {n} e = let z : m ≡ n = cc in ap (λ (t : ℕ). Counted.Count t) z
+count-given (Counted.Refused number) e = let z : _≡_ {A = ℕ} 0 1 = cc in absurd (omega arith)
+
+pub count-refused : (r : Counted) {e : ℕ} → countSays r ≡ refuses e → r ≡ Counted.Refused e
+count-refused (Counted.Count m) z = let b : _≡_ {A = ℕ} 0 1 = cc in absurd (omega arith)
+count-refused (Counted.Refused number) {e} z = let b : number ≡ e = cc in ap (λ (t : ℕ). Counted.Refused t) b
 
 both-true : (a b : Bool) → (a && b) ≡ true → (a ≡ true) × (b ≡ true)
 both-true true b e = (refl, e)
@@ -250,13 +263,13 @@ unless-but result other (m when false ∷ lines) more number e f =
 pub filled-refused : {k : Checked} {m : ℕ} {lines : List Line} (n : ℕ) (vs buffer : List ℕ) → k ≡ tried lines → IsRefused k → m ≡ numberOf k
     → Filled lines n vs buffer (Counted.Refused m) buffer
 filled-refused {lines = lines} n vs buffer e h z = record {
-  answer = refused lines (Counted.Count n) (λ (i : ℕ). Counted.Refused i) e h z;
+  answer = refused lines (gives n) (λ (i : ℕ). refuses i) e h z;
   result = refused lines (written vs buffer) (λ (i : ℕ). buffer) e h z;
 }
 
 pub filled-done : {lines : List Line} {n m : ℕ} {vs buffer buffer′ : List ℕ} → tried lines ≡ Passed → m ≡ n → buffer′ ≡ written vs buffer
     → Filled lines n vs buffer (Counted.Count m) buffer′
-filled-done p z e = record { answer = rw p (ap (λ (t : ℕ). Counted.Count t) z); result = rw p e }
+filled-done p z e = record { answer = rw p (ap (λ (t : ℕ). gives t) z); result = rw p e }
 
 -- the two ways through a door
 pub filled-at-door : (door own : List Line) (n : ℕ) (vs buffer : List ℕ) {k : Checked} {m : ℕ} → k ≡ tried door → IsRefused k → m ≡ numberOf k
@@ -266,7 +279,7 @@ filled-at-door door own n vs buffer e h z = filled-refused n vs buffer (refused-
 pub filled-past-door : (door : List Line) {own : List Line} {n : ℕ} {vs buffer buffer′ : List ℕ} {r : Counted} → tried door ≡ Passed → Filled own n vs buffer r buffer′
     → Filled (door ++ own) n vs buffer r buffer′
 filled-past-door door {own} {n} {vs} {buffer} p f = record {
-  answer = f .answer ∙ past-door door own (Counted.Count n) (λ (i : ℕ). Counted.Refused i) p;
+  answer = f .answer ∙ past-door door own (gives n) (λ (i : ℕ). refuses i) p;
   result = f .result ∙ past-door door own (written vs buffer) (λ (i : ℕ). buffer) p;
 }
 
@@ -275,7 +288,7 @@ pub filled-counted : {lines : List Line} {n m : ℕ} {vs buffer buffer′ : List
     → (tried lines ≡ Passed) × (m ≡ n) × (buffer′ ≡ written vs buffer)
 filled-counted {lines} {n} {m} {vs} {buffer} {buffer′} f = go (tried lines) (f .answer) (f .result)
   where
-    go : (k : Checked) → Counted.Count m ≡ decided k (Counted.Count n) Counted.Refused → buffer′ ≡ decided k (written vs buffer) (λ number. buffer)
+    go : (k : Checked) → gives m ≡ decided k (gives n) refuses → buffer′ ≡ decided k (written vs buffer) (λ number. buffer)
         → (k ≡ Passed) × (m ≡ n) × (buffer′ ≡ written vs buffer)
     go Passed e b = (refl, cc, b)
     go (Refused number) e b = let z : _≡_ {A = ℕ} 0 1 = cc in absurd (omega arith)
@@ -294,7 +307,7 @@ pub filled-number : {lines : List Line} {n m : ℕ} {vs buffer buffer′ : List 
     → (tried lines ≡ Refused m) × (buffer′ ≡ buffer)
 filled-number {lines} {n} {m} {vs} {buffer} {buffer′} f = go (tried lines) (f .answer) (f .result)
   where
-    go : (k : Checked) → Counted.Refused m ≡ decided k (Counted.Count n) Counted.Refused → buffer′ ≡ decided k (written vs buffer) (λ number. buffer)
+    go : (k : Checked) → refuses m ≡ decided k (gives n) refuses → buffer′ ≡ decided k (written vs buffer) (λ number. buffer)
         → (k ≡ Refused m) × (buffer′ ≡ buffer)
     go Passed e b = let z : _≡_ {A = ℕ} 0 1 = cc in absurd (omega arith)
     go (Refused number) e b = (cc, b)

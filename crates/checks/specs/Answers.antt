@@ -1,4 +1,5 @@
--- DEFINITIONS. What the cases of Checked stand for, and what a call that fills a result buffer answers and leaves in it.
+-- DEFINITIONS. What an answer says, by paper 01's number and values for each of its cases, and what a call that fills a result buffer answers and leaves in it.
+-- Every promise of an answer that is an enum is about what it says.
 use mathlib.Core.Path.{_≡_}
 use mathlib.Core.List.{List}
 use Prim.Native.Nat.{ℕ, zero, suc}
@@ -21,13 +22,28 @@ numbered (suc number) = Refused (suc number)
 abbrev pub firstOf : Checked → Checked → Checked
 firstOf k next = decided k next Refused
 
--- what an answer says: a result, or paper 01's number of the refusal
-abbrev pub countChecked : Counted → Checked
-countChecked (Counted.Count n) = Passed
-countChecked (Counted.Refused number) = Refused number
+-- "An answer is a result or a refusal number, never both": the values of the result, or the number
+pub data Says (A : Type 0) : Type 0 where
+  gives : A → Says A
+  refuses : ℕ → Says A
+
+-- whether it is a result, or else the number
+abbrev pub checked : {A : Type 0} → Says A → Checked
+checked (gives values) = Passed
+checked (refuses number) = Refused number
+
+-- the values; for a refusal those given here
+abbrev pub valuesOr : {A : Type 0} → A → Says A → A
+valuesOr none (gives values) = values
+valuesOr none (refuses number) = none
+
+-- the answer of a cut, a table or a list: the number of what was found
+abbrev pub countSays : Counted → Says ℕ
+countSays (Counted.Count n) = gives n
+countSays (Counted.Refused number) = refuses number
 
 -- a call that fills a result buffer with vs and answers n: "An accepted cut or start table writes exactly the answer's entries, from entry 0"; "Result buffers
 -- are untouched by a refusal."
 pub record Filled (lines : List Line) (n : ℕ) (vs buffer : List ℕ) (r : Counted) (buffer′ : List ℕ) : Type 0 where
-  pub answer : r ≡ Counted.Count n unless lines then Counted.Refused
+  pub answer : countSays r ≡ gives n unless lines then refuses
   pub result : buffer′ ≡ written vs buffer unless lines then (λ number. buffer)

@@ -1,5 +1,5 @@
 -- The first cut of what is left of a record, over plain lists: by its first letter, and by the test's verdict where that is no separator.
-use mathlib.Core.Path.{_≡_, refl, sym, _∙_}
+use mathlib.Core.Path.{ap, _≡_, refl, sym, _∙_}
 use mathlib.Core.List.{List, [], _∷_}
 use Prim.Native.Nat.{ℕ, _<_}
 use native.Mathlib.Omega.{arith}
@@ -9,7 +9,7 @@ use denote.Enum.Declared.{tagOf}
 use Rattle.words.specs.Separated.{separator}
 use Rattle.theory.specs.stretches.CutSteps.{CutBy, Uncut, separator-cut, separator-last, letter-cut, letter-last}
 use Rattle.extension.specs.declared.Extension.{Extension}
-use Rattle.extension.specs.Extension.{Verdict}
+use Rattle.extension.specs.Extension.{testSays, Verdict}
 use Rattle.extension.proofs.Extension.{the-type}
 use Rattle.extension.proofs.VerdictLaws.{Fails, fails-told, holds-told}
 use Rattle.cuts.specs.declared.Cut.{Cut}
@@ -40,5 +40,5 @@ module _ (w work work′ : List ℕ) (a : Extension) (h : getD w 0 0 < separator
 
   pub cut-letter : (l p r : ℕ) → 0 < length w → a ≡ Extension.Failing l p r → FirstCut w work (Cut.After p r) work′
   cut-letter l p r s z =
-      let f : Fails w l p r = fails-told w l p r s (sym z ∙ v .answer) in
+      let f : Fails w l p r = fails-told w l p r s (ap testSays (sym z) ∙ v .answer) in
       record { told = rw (f .prefix, f .border) (letter-cut w s h (f .not)); kept = v .kept }

@@ -16,7 +16,7 @@ use Rattle.icfl_breaks.specs.declared.CountedBreaks.{CountedBreaks}
 use Rattle.icfl.specs.Icfl.{IcflDone}
 use Rattle.icfl_breaks.specs.IcflBreaks.{BreaksDone}
 use Rattle.batch.specs.declared.Batch.{Batch}
-use Rattle.batch.specs.Batch.{place, BatchDone}
+use Rattle.batch.specs.Batch.{BatchDone}
 use Rattle.cfl.specs.CflIn.{CflInDone}
 use Rattle.table.specs.Table.{Tabled}
 use Rattle.runs.specs.Runs.{RunsDone}
@@ -76,7 +76,7 @@ abbrev pub countsBy : ℕ × ℕ × ℕ → CountedBreaks
 countsBy (number, factors, breaks) = decided (numbered number) (CountedBreaks.Counts factors breaks) CountedBreaks.Refused
 
 abbrev pub batchBy : Replies → Batch
-batchBy x = record { refusal = x .refusal; places = map (λ y. place (countBy (y .refusal, y .count))) (x .replies) }
+batchBy x = record { refusal = x .refusal; places = map (λ y. record { answer = countBy (y .refusal, y .count) }) (x .replies) }
 
 abbrev pub comparisonBy : ℕ × ℤ × ℕ → Comparison
 comparisonBy (number, sign, common) = decided (numbered number) (Comparison.Order sign common) Comparison.Refused

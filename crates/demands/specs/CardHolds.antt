@@ -9,6 +9,7 @@ use lib.Seq.{take-append-add, drop-append-add, drop-at, length-take-le}
 use Rattle.buffers.specs.Buffers.{written}
 use Rattle.checks.specs.Lines.{Door, tried}
 use Rattle.checks.specs.declared.Checked.the-variants.{Passed}
+use Rattle.checks.specs.Answers.{Says, refuses, countSays}
 use Rattle.checks.specs.declared.Counted.{Counted}
 use Rattle.batch.specs.declared.Batch.{Batch}
 use Rattle.icfl.specs.Icfl.{icflAnswer, icflResult, icflWork}
@@ -18,8 +19,9 @@ use Rattle.batch.specs.BatchStatements.{packedPairs}
 use Rattle.batch.proofs.FoldLaws.{left, added, batch-answers, Every, Fits, linesOf, fits-by, folded-pairs}
 use Rattle.batch.proofs.BatchLaws.{batch-left, no-fours}
 use Rattle.demands.specs.Calls.{Calls}
+use Rattle.demands.specs.Demand1.{Total}
 use Rattle.demands.specs.Requests.{Singly, none, next, CardAnswered}
-use Rattle.demands.specs.Meets.{Meets, Total}
+use Rattle.demands.specs.Meets.{Meets}
 
 -- a part of n entries behind the first u, and what follows it
 module _ (u n : ℕ) (xs ys : List ℕ) (l : u ≤ length xs) where
@@ -41,17 +43,23 @@ module _ (u n : ℕ) (xs ys : List ℕ) (l : u ≤ length xs) where
       in
       ap (drop u) whole ∙ drop-at (take u xs) (take n ys ++ zs) u front ∙ ap (λ (t : List ℕ). take n ys ++ t) (sym later)
 
-every-member : (P : Counted → Type 0) (answers : List Counted) → Every P answers → (a : Counted) → List·Memᴰ a answers → P a
+every-member : (P : Says ℕ → Type 0) (answers : List (Says ℕ)) → Every P answers → (a : Says ℕ) → List·Memᴰ a answers → P a
 every-member P (x ∷ answers) h a (List·Memᴰ·head e) = rw e (h .0)
 every-member P (x ∷ answers) h a (List·Memᴰ·tail m) = every-member P answers (h .1) a m
 
 module _ (door : Door) (no-four : (w : List ℕ) → NoFour (door w)) (c : Calls) (m : Meets door c) (t : Total c) where
   single : (w work pairs : List ℕ) → (let lines = door w in
-      c .PieceCut w work pairs (icflAnswer lines w work pairs) (icflWork lines w work pairs) (icflResult lines w work pairs))
+      (a : Counted) × (countSays a ≡ icflAnswer lines w work pairs) × c .PieceCut w work pairs a (icflWork lines w work pairs) (icflResult lines w work pairs))
   single w work pairs =
       let a = t .pieceCut w work pairs in
       let d = m .pieceCut w work pairs (a .0) (a .1) (a .2) (a .3) in
-      rw (d .answer, d .worked, d .result) at (a .3)
+      (a .0, d .answer, rw (d .worked, d .result) at (a .3))
+
+  -- one more call, by what its answer says
+  joined : {w work left work₁ left₁ work′ left′ : List ℕ} {ws : List (List ℕ)} {answers : List (Says ℕ)} (a : Counted) {s : Says ℕ} → countSays a ≡ s
+      → c .PieceCut w work left a work₁ left₁ → Singly c ws work₁ (drop (entriesUsed s) left₁) answers work′ left′
+      → Singly c (w ∷ ws) work left (s ∷ answers) work′ (take (entriesUsed s) left₁ ++ left′)
+  joined a e d later = rw (← e) (next d (rw (← e) at later))
 
   singly : (p : Progress) (ws : List (List ℕ)) → Fits p
       → Singly c ws (p .work) (left p) (added door p ws) (cutRecords door p ws .work) (drop (p .used) (cutRecords door p ws .pairs))
@@ -68,7 +76,7 @@ module _ (door : Door) (no-four : (w : List ℕ) → NoFour (door w)) (c : Calls
       in
       let rest = written (packedPairs ws (added door q ws)) (left q) in
       rw (parts-behind (p .used) n (p .pairs) result l rest (cutRecords door q ws .pairs) room (folded-pairs door q ws fits))
-      (next (single w (p .work) (left p)) later)
+      (let x = single w (p .work) (left p) in joined (x .0) (x .1) (x .2) later)
 
   pub card-answered : (bytes es work pairs work′ pairs′ : List ℕ) (r : Batch) → BatchDone door bytes es work pairs r work′ pairs′
       → tried (batchLines es (length bytes)) ≡ Passed → CardAnswered c bytes es work pairs r work′ pairs′
@@ -76,8 +84,8 @@ module _ (door : Door) (no-four : (w : List ℕ) → NoFour (door w)) (c : Calls
       let records = recordsFrom 0 es bytes in
       record {
         answers = batchOf door bytes es work pairs .answers;
-        places = ap (λ (b : Batch). b .places) (rw p at (d .answer));
+        places = ap (λ (b : ℕ × List (Says ℕ)). b .1) (rw p at (d .answer));
         singly = rw (rw p at (d .worked), rw p at (d .result), batch-answers door bytes es work pairs) (singly (uncut work pairs) records (omega arith));
         left = batch-left d p;
-        enough = λ l. every-member (λ a. ¬ (a ≡ Counted.Refused 4)) (batchOf door bytes es work pairs .answers) (no-fours door no-four bytes es work pairs p l);
+        enough = λ l. every-member (λ a. ¬ (a ≡ refuses 4)) (batchOf door bytes es work pairs .answers) (no-fours door no-four bytes es work pairs p l);
       }

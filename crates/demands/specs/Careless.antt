@@ -3,7 +3,7 @@ use mathlib.Core.Path.{_≡_, refl, ap, sym, _∙_}
 use mathlib.Core.List.{List, [], _∷_, _++_}
 use Prim.Native.Nat.{ℕ, suc, _+_, _*_, _≤_, _<_}
 use native.Mathlib.Omega.{arith}
-use lib.ListN.{length, drop, getD, replicate, length-replicate}
+use lib.ListN.{length, take, getD, replicate, length-replicate}
 use lib.Seq.{take-at}
 use borrow.Author.Tests.{le-ltb}
 use Rattle.words.specs.Words.{mostLetters}
@@ -11,7 +11,7 @@ use Rattle.words.specs.Factorizations.{prefixLength}
 use Rattle.words.specs.Separated.{separatedIcflEnds, separatedCflInEnds}
 use Rattle.words.specs.Pairs.{pairsFrom, separatedPairs, endsOf}
 use Rattle.words.specs.Examples.{a, b, c}
-use Rattle.theory.specs.stretches.RecordPairs.{pairs-ends-from, pairs-number, pairs-ends}
+use Rattle.theory.specs.stretches.RecordPairs.{pairs-ends-from, pairs-number, pairs-entries, pairs-ends}
 use Rattle.buffers.specs.Buffers.{cleared, written}
 use Rattle.checks.specs.Lines.{Line, tried, _unless_then_, workLine, resultLine}
 use Rattle.checks.specs.Answers.{Filled}
@@ -48,7 +48,8 @@ other-pairs f w s l even n d =
     record { filled = record { answer = rw none refl; result = rw none refl }; worked = rw none refl } in
     let gave = d .pieces work pairs _ _ _ cut refl in
     let same : length (separatedIcflEnds w) ≡ length (endsOf (f w)) = sym cc in
-    n (sym (take-at (f w) (drop (length (f w)) pairs) (2 * length (endsOf (f w))) even) ∙ (rw same at (gave .entries)))
+    let size-own : length (separatedPairs w) ≡ 2 * length (endsOf (f w)) = pairs-entries w ∙ ap (λ (k : ℕ). 2 * k) same in
+    n (sym (take-at (f w) _ _ even) ∙ (ap (take (2 * length (endsOf (f w)))) (gave .entries) ∙ take-at (separatedPairs w) _ _ size-own))
 
 -- those whose ends are f w, with the right counts beside them
 abbrev pub countedAt : (List ℕ → List ℕ) → List ℕ → List ℕ

@@ -5,12 +5,13 @@ use mathlib.Core.List.{List, [], _∷_, _++_}
 use Prim.Native.Nat.{ℕ, _*_}
 use native.Mathlib.Omega.{arith}
 use lib.ListN.{length, getD, replicate}
+use lib.Seq.{slice}
 use lib.Dec.{eqb}
 use Rattle.words.specs.Separated.{separatedIcflEnds, separatedCflInEnds}
 use Rattle.words.specs.Pairs.{endsInside, separatedPairs, endsOf}
 use Rattle.words.specs.Examples.{a, b}
 use Rattle.conditions.specs.Conditions.{faultyEnds}
-use Rattle.pairs.specs.PairedList.{faultyPairs}
+use Rattle.pairs.specs.PairedList.{faultyPairs, factorFrom}
 use Rattle.checks.specs.Lines.{Line, _when_, tried, _unless_then_, workLine, resultLine, numberLine}
 use Rattle.checks.specs.Answers.{numberOf}
 use Rattle.checks.specs.declared.Counted.{Counted}
@@ -49,10 +50,12 @@ pub room-for-ends : ¬ Demand1 recordDoor (cutter (Answering
 unfolding tried separatedIcflEnds
 room-for-ends d = not-both refl (sym (d .pieceCut (a ∷ []) (replicate 3 0) (0 ∷ []) _ _ (Counted.Count 1) (refl, refl, refl) .0 .first))
 
--- ---- readers and summaries, by the lines that they try; only the number is looked at
+-- ---- readers and summaries that are right but for the lines that they try
 
 abbrev Reads : (List ℕ → List ℕ → ℕ → List Line) → Reader
-Reads lines w ps k part number = number ≡ numberOf (tried (recordDoor .door w ++ lines w ps k))
+Reads lines w ps k part number =
+    (number ≡ numberOf (tried (recordDoor .door w ++ lines w ps k)))
+    × (part ≡ slice (factorFrom (endsOf ps) k) (getD (endsOf ps) k 0) w unless recordDoor .door w ++ lines w ps k then (λ e. []))
 
 abbrev Sums : (List ℕ → List ℕ → List Line) → Summing
 Sums lines w ps r = r ≡ summaryOf (endsOf ps) unless recordDoor .door w ++ lines w ps then emptySummary
@@ -64,20 +67,20 @@ endsLines w ps = (7 when faultyEnds (endsOf ps) (length w)) ∷ []
 -- "an odd number of entries"
 pub odd-list-read : ¬ Demand1 recordDoor (reader (Reads (λ w ps k. endsLines w ps ++ numberLine k (length (endsOf ps)) ∷ [])))
 unfolding tried faultyEnds faultyPairs endsOf
-odd-list-read d = not-both refl (sym (d .reader (a ∷ []) (1 ∷ 1 ∷ 1 ∷ []) 0 [] 0 refl .first))
+odd-list-read d = not-both refl (sym (d .reader (a ∷ []) (1 ∷ 1 ∷ 1 ∷ []) 0 (a ∷ []) 0 (refl, refl) .0 .first))
 
 -- "a count that is 0 or above its piece's length"
 pub large-count-summed : ¬ Demand1 recordDoor (summer (Sums endsLines))
 unfolding tried faultyEnds faultyPairs endsOf summaryOf
-large-count-summed d = not-both refl (sym (d .summary (a ∷ []) (1 ∷ 2 ∷ []) _ refl .first))
+large-count-summed d = not-both refl (sym (d .summary (a ∷ []) (1 ∷ 2 ∷ []) _ refl .0 .first))
 
 -- one that takes no counts but ours, where the request asks no more than that they fit: the list 2, 1 of `aa`, which has two strict pieces
 pub strict-counts-only : ¬ Demand1 recordDoor (summer (Sums
     (λ w ps. summaryLines w ps ++ (7 when not (eqb (getD ps 1 0) (endsInside 0 (getD ps 0 0) (separatedCflInEnds w)))) ∷ [])))
 unfolding tried faultyPairs endsOf summaryOf endsInside separatedCflInEnds
-strict-counts-only d = not-both refl (d .summary (a ∷ a ∷ []) (2 ∷ 1 ∷ []) _ refl .first)
+strict-counts-only d = not-both refl (d .summary (a ∷ a ∷ []) (2 ∷ 1 ∷ []) _ refl .0 .first)
 
 -- 8 by entries: one that reads the second part of a list with one pair
 pub numbered-by-entries : ¬ Demand1 recordDoor (reader (Reads (λ w ps k. summaryLines w ps ++ numberLine k (length ps) ∷ [])))
 unfolding tried faultyPairs endsOf
-numbered-by-entries d = not-both refl (sym (d .reader (a ∷ []) (1 ∷ 1 ∷ []) 1 [] 0 refl .first))
+numbered-by-entries d = not-both refl (sym (d .reader (a ∷ []) (1 ∷ 1 ∷ []) 1 [] 0 (refl, refl) .0 .first))

@@ -3,7 +3,7 @@ use mathlib.Core.Path.{_≡_, refl, ap, sym, _∙_}
 use mathlib.Core.List.{List, [], _∷_, _++_, flatten}
 use Prim.Native.Nat.{ℕ, _*_, _≤_}
 use native.Mathlib.Omega.{arith}
-use lib.ListN.{length, drop, getD, replicate, length-replicate}
+use lib.ListN.{length, take, getD, replicate, length-replicate}
 use lib.Seq.{take-at}
 use borrow.Author.Tests.{le-ltb}
 use Rattle.words.specs.Words.{mostLetters}
@@ -14,6 +14,7 @@ use Rattle.words.specs.declared.Break.{Break}
 use Rattle.words.specs.Examples.{a, b}
 use Rattle.buffers.specs.Buffers.{cleared, written}
 use Rattle.checks.specs.Lines.{Line, tried, _unless_then_, resultLine}
+use Rattle.checks.specs.Answers.{Says, valuesOr}
 use Rattle.checks.specs.declared.Checked.the-variants.{Passed}
 use Rattle.checks.proofs.LineLaws.{all-pass, both-pass}
 use Rattle.fates.specs.Entries.{entriesOfBreaks}
@@ -70,9 +71,10 @@ other-breaks f w s l n d =
     (cleared (3 * length w) work) (written (separatedPairs w) pairs) (written (entriesOfBreaks (f w)) breaks) =
     record { answer = rw none refl; pairs-are = rw none refl; breaks-are = rw none refl; worked = rw none refl } in
     let gave = d .reasons work pairs breaks _ _ _ _ cut refl in
-    let same : length (separatedBreaks w) ≡ length (f w) = sym cc in
-    let front = take-at (entriesOfBreaks (f w)) (drop (length (entriesOfBreaks (f w))) breaks) (5 * length (f w)) (length-entries (f w)) in
-    n (sym front ∙ (rw same at (gave .breaks)))
+    let same : length (separatedBreaks w) ≡ length (f w) = sym (ap (λ (t : Says (ℕ × ℕ)). valuesOr (0, 0) t .1) (gave .counts)) in
+    let size-own : length (entriesOfBreaks (separatedBreaks w)) ≡ 5 * length (f w) = length-entries (separatedBreaks w) ∙ ap (λ (k : ℕ). 5 * k) same in
+    let front = take-at (entriesOfBreaks (f w)) _ (5 * length (f w)) (length-entries (f w)) in
+    n (sym front ∙ (ap (take (5 * length (f w))) (gave .breaks-are) ∙ take-at (entriesOfBreaks (separatedBreaks w)) _ _ size-own))
 
 -- "take the shortest such r": one that takes the longest, which is `a` for `aaab`, so that a first break lies at 2
 pub longest-border : (f : List ℕ → List Break) (bs : List Break)

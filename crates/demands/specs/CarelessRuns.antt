@@ -8,7 +8,7 @@ use Rattle.words.specs.Runs.{Triple, runs, separatedRuns}
 use Rattle.words.specs.Examples.{a, b}
 use Rattle.buffers.specs.Buffers.{written}
 use Rattle.checks.specs.Lines.{Line, tried, _unless_then_, resultLine}
-use Rattle.checks.specs.Answers.{Filled}
+use Rattle.checks.specs.Answers.{Says, gives, Filled}
 use Rattle.checks.specs.declared.Counted.{Counted}
 use Rattle.checks.proofs.LineLaws.{not-both}
 use Rattle.inserting.specs.Entries.{entriesOfRuns}
@@ -74,6 +74,6 @@ pub marks-repeated : ¬ Demands recordDoor (lister (Lists runs))
 unfolding tried runs separatedRuns flatten
 marks-repeated d =
     let h = d .repetitions (255 ∷ 255 ∷ []) (replicate 3 0) _ (Counted.Count 1) (record { answer = refl; result = refl }) refl in
-    let z : Counted.Count 1 ≡ Counted.Count 0 = count-only h in
+    let z : _≡_ {A = Says ℕ} (gives 1) (gives 0) = count-only h in
     let n : _≡_ {A = ℕ} 1 0 = cc in
     omega arith

@@ -6,25 +6,25 @@ use Prim.Native.Nat.{ℕ, _*_, _<_}
 use lib.ListN.{length, take, drop, replicate}
 use Rattle.words.specs.Words.{mostLetters}
 use Rattle.checks.specs.Lines.{Line, Door, tried, recordLines}
-use Rattle.checks.specs.Answers.{numbered, countChecked}
+use Rattle.checks.specs.Answers.{numbered, checked, countSays}
 use Rattle.checks.specs.declared.Checked.{Checked}
 use Rattle.checks.specs.declared.Checked.the-variants.{Refused}
 use Rattle.checks.specs.declared.Counted.{Counted}
 use Rattle.extension.specs.declared.Extension.{Extension}
-use Rattle.extension.specs.Extension.{testChecked, extensionLines}
+use Rattle.extension.specs.Extension.{testSays, extensionLines}
 use Rattle.icfl.specs.Icfl.{icflLines}
 use Rattle.icfl_breaks.specs.declared.CountedBreaks.{CountedBreaks}
-use Rattle.icfl_breaks.specs.IcflBreaks.{breaksLines, breaksChecked}
+use Rattle.icfl_breaks.specs.IcflBreaks.{breaksLines, breaksSays}
 use Rattle.batch.specs.declared.Batch.{Batch}
-use Rattle.batch.specs.Batch.{placesOf, batchLines}
+use Rattle.batch.specs.Batch.{saysOf, placesOf, batchLines}
 use Rattle.cfl.specs.CflIn.{cflInLines}
 use Rattle.table.specs.Table.{tableLines}
 use Rattle.runs.specs.Runs.{runsLines}
 use Rattle.compare.specs.declared.suffixes.Comparison.{Comparison}
-use Rattle.compare.specs.Compare.{comparisonChecked, compareLines}
+use Rattle.compare.specs.Compare.{comparisonSays, compareLines}
 use Rattle.reading.specs.Factor.{factorLines}
 use Rattle.summary.specs.declared.Summary.{Summary}
-use Rattle.summary.specs.Summary.{summaryLines}
+use Rattle.summary.specs.Summary.{summaryLines, emptySummary}
 use Rattle.demands.specs.Calls.{Calls}
 
 -- a result where no line is met, and otherwise the number of the first that is: one of those that paper 01 gives the call, and never 0
@@ -57,30 +57,47 @@ pub record UntouchedBut4 (n : ℕ) (said : Checked) (work work′ : List ℕ) : 
   pub zeros : said ≡ Refused 4 → take n work′ ≡ replicate n 0
   pub later : said ≡ Refused 4 → drop n work′ ≡ drop n work
 
+-- "The answer to every call, for every input": there is one
+pub record Total (c : Calls) : Type 0 where
+  pub test : (w work : List ℕ) → (r : Extension) × (work′ : List ℕ) × c .Test w work r work′
+  pub pieceCut : (w work pairs : List ℕ) → (r : Counted) × (work′ pairs′ : List ℕ) × c .PieceCut w work pairs r work′ pairs′
+  pub reasonedCut : (w work pairs breaks : List ℕ) → (r : CountedBreaks) × (work′ pairs′ breaks′ : List ℕ) × c .ReasonedCut w work pairs breaks r work′ pairs′ breaks′
+  pub card : (bytes es work pairs : List ℕ) → (r : Batch) × (work′ pairs′ : List ℕ) × c .CardCut bytes es work pairs r work′ pairs′
+  pub strictCut : (w ends : List ℕ) → (r : Counted) × (ends′ : List ℕ) × c .StrictCut w ends r ends′
+  pub startTable : (w out : List ℕ) → (r : Counted) × (out′ : List ℕ) × c .StartTable w out r out′
+  pub repetitions : (w out : List ℕ) → (r : Counted) × (out′ : List ℕ) × c .Repetitions w out r out′
+  pub comparison : (w : List ℕ) (first end start other : ℕ) → (r : Comparison) × c .Comparing w first end start other r
+  pub reader : (w ps : List ℕ) (k : ℕ) → (part : List ℕ) × (number : ℕ) × c .Reading w ps k part number
+  pub summary : (w ps : List ℕ) → (r : Summary) × c .Summing w ps r
+
 -- the comparison, the reader and the summary write to no buffer
 pub record Demand1 (d : Doorway) (c : Calls) : Type 0 where
+  pub answered : Total c
   pub test : (w work work′ : List ℕ) (r : Extension) → c .Test w work r work′
-      → AnswersTo d w (3 ∷ 9 ∷ []) (extensionLines w (length work)) (testChecked r) × Untouched (testChecked r) work work′
+      → AnswersTo d w (3 ∷ 9 ∷ []) (extensionLines w (length work)) (checked (testSays r)) × Untouched (checked (testSays r)) work work′
   pub pieceCut : (w work pairs work′ pairs′ : List ℕ) (r : Counted) → c .PieceCut w work pairs r work′ pairs′
-      → AnswersTo d w (3 ∷ 4 ∷ []) (icflLines w (length work) (length pairs)) (countChecked r) × Untouched (countChecked r) pairs pairs′
-      × UntouchedBut4 (3 * length w) (countChecked r) work work′
+      → AnswersTo d w (3 ∷ 4 ∷ []) (icflLines w (length work) (length pairs)) (checked (countSays r)) × Untouched (checked (countSays r)) pairs pairs′
+      × UntouchedBut4 (3 * length w) (checked (countSays r)) work work′
   -- request 102: the same with breaks beside the pairs
   pub reasonedCut : (w work pairs breaks work′ pairs′ breaks′ : List ℕ) (r : CountedBreaks) → c .ReasonedCut w work pairs breaks r work′ pairs′ breaks′
-      → AnswersTo d w (3 ∷ 4 ∷ []) (breaksLines w (length work) (length pairs) (length breaks)) (breaksChecked r) × Untouched (breaksChecked r) pairs pairs′
-      × Untouched (breaksChecked r) breaks breaks′ × UntouchedBut4 (3 * length w) (breaksChecked r) work work′
+      → AnswersTo d w (3 ∷ 4 ∷ []) (breaksLines w (length work) (length pairs) (length breaks)) (checked (breaksSays r)) × Untouched (checked (breaksSays r)) pairs pairs′
+      × Untouched (checked (breaksSays r)) breaks breaks′ × UntouchedBut4 (3 * length w) (checked (breaksSays r)) work work′
   -- request 105: 10 for the card, "checked before any record"; "With refusal 10 all of them" hold a result of 0
   pub card : (bytes es work pairs work′ pairs′ : List ℕ) (r : Batch) → c .CardCut bytes es work pairs r work′ pairs′
       → Answers (10 ∷ []) (batchLines es (length bytes)) (numbered (r .refusal)) × Untouched (numbered (r .refusal)) pairs pairs′
-      × Untouched (numbered (r .refusal)) work work′ × ((e : ℕ) → numbered (r .refusal) ≡ Refused e → r .places ≡ placesOf [])
+      × Untouched (numbered (r .refusal)) work work′ × ((e : ℕ) → numbered (r .refusal) ≡ Refused e → saysOf (r .places) ≡ placesOf [])
   pub strictCut : (w ends ends′ : List ℕ) (r : Counted) → c .StrictCut w ends r ends′
-      → AnswersTo d w (4 ∷ []) (cflInLines w (length ends)) (countChecked r) × Untouched (countChecked r) ends ends′
+      → AnswersTo d w (4 ∷ []) (cflInLines w (length ends)) (checked (countSays r)) × Untouched (checked (countSays r)) ends ends′
   pub startTable : (w out out′ : List ℕ) (r : Counted) → c .StartTable w out r out′
-      → AnswersTo d w (4 ∷ []) (tableLines w (length out)) (countChecked r) × Untouched (countChecked r) out out′
+      → AnswersTo d w (4 ∷ []) (tableLines w (length out)) (checked (countSays r)) × Untouched (checked (countSays r)) out out′
   -- request 107: "no work buffer is lent, and a short list buffer gets 4"
   pub repetitions : (w out out′ : List ℕ) (r : Counted) → c .Repetitions w out r out′
-      → AnswersTo d w (4 ∷ []) (runsLines w (length out)) (countChecked r) × Untouched (countChecked r) out out′
+      → AnswersTo d w (4 ∷ []) (runsLines w (length out)) (checked (countSays r)) × Untouched (checked (countSays r)) out out′
   pub comparison : (w : List ℕ) (first end start other : ℕ) (r : Comparison) → c .Comparing w first end start other r
-      → AnswersTo d w (5 ∷ 6 ∷ []) (compareLines (length w) first end start other) (comparisonChecked r)
+      → AnswersTo d w (5 ∷ 6 ∷ []) (compareLines (length w) first end start other) (checked (comparisonSays r))
+  -- "the part with a refusal is empty"
   pub reader : (w ps : List ℕ) (k : ℕ) (part : List ℕ) (number : ℕ) → c .Reading w ps k part number
-      → AnswersTo d w (7 ∷ 8 ∷ []) (factorLines w ps k) (numbered number)
-  pub summary : (w ps : List ℕ) (r : Summary) → c .Summing w ps r → AnswersTo d w (7 ∷ []) (summaryLines w ps) (numbered (r .refusal))
+      → AnswersTo d w (7 ∷ 8 ∷ []) (factorLines w ps k) (numbered number) × ((e : ℕ) → numbered number ≡ Refused e → part ≡ [])
+  -- "Where other numbers must stand beside it, as the summary's, they are 0."
+  pub summary : (w ps : List ℕ) (r : Summary) → c .Summing w ps r
+      → AnswersTo d w (7 ∷ []) (summaryLines w ps) (numbered (r .refusal)) × ((e : ℕ) → numbered (r .refusal) ≡ Refused e → r ≡ emptySummary e)

@@ -3,36 +3,34 @@
 use mathlib.Core.Path.{_≡_, refl, ap, sym, _∙_}
 use mathlib.Core.Bool.{Bool, true, false}
 use mathlib.Core.Logic.{_⊎_, inl, inr}
-use mathlib.Core.List.{List, [], _++_, List·Memᴰ}
+use mathlib.Core.List.{List, [], _∷_, _++_, List·Memᴰ}
 use Prim.Native.Nat.{ℕ, zero, suc, _<_}
 use native.Mathlib.Omega.{arith}
 use lib.ListN.{length, drop, replicate, length-replicate}
 use lib.Seq.{take-at, drop-at}
 use lib.Dec.{ltb}
 use borrow.Author.Tests.{ne-eqb}
-use Rattle.words.specs.Separated.{separatedIcflEnds, separatedBreaks}
 use Rattle.words.specs.Pairs.{endsOf}
 use Rattle.buffers.specs.Buffers.{cleared}
 use Rattle.checks.specs.Lines.{Line, Door, tried, decided, _unless_then_}
-use Rattle.checks.specs.Answers.{numbered, numberOf, countChecked, Filled}
+use Rattle.checks.specs.Answers.{numbered, numberOf, Says, checked, countSays, Filled}
 use Rattle.checks.specs.declared.Checked.{Checked}
 use Rattle.checks.specs.declared.Checked.the-variants.{Passed, Refused}
 use Rattle.checks.specs.declared.Counted.{Counted}
 use Rattle.checks.proofs.LineLaws.{not-both, reading, said, zero-passes, numbered-is}
 use Rattle.checks.proofs.LineLaws.{everyNumber, every-joined, every-weaker, among, among-first, among-second, first-listed}
-use Rattle.extension.specs.Extension.{testChecked, extensionLines}
-use Rattle.extension.proofs.VerdictLaws.{verdict-checked}
+use Rattle.extension.specs.Extension.{verdictOf, extensionLines}
 use Rattle.icfl.specs.Icfl.{workAfter}
 use Rattle.icfl.proofs.IcflCases.{icfl-filled}
 use Rattle.icfl_breaks.specs.declared.CountedBreaks.{CountedBreaks}
-use Rattle.icfl_breaks.specs.IcflBreaks.{breaksLines, breaksChecked, BreaksDone}
+use Rattle.icfl_breaks.specs.IcflBreaks.{breaksLines, breaksSays, BreaksDone}
 use Rattle.batch.specs.declared.Batch.{Batch}
 use Rattle.batch.specs.Batch.{batchOf, batchWith, batchLines, BatchDone}
-use Rattle.compare.specs.declared.suffixes.Comparison.{Comparison}
-use Rattle.compare.specs.Compare.{comparisonChecked, compareLines, orderOf}
+use Rattle.compare.specs.Compare.{compareLines, orderOf}
+use Rattle.reading.specs.Factor.{factorLines}
 use Rattle.summary.specs.Summary.{summaryLines, summaryOf, emptySummary}
 use Rattle.demands.specs.Calls.{Calls}
-use Rattle.demands.specs.Demand1.{Doorway, Answers, AnswersTo, Untouched, UntouchedBut4, Demand1}
+use Rattle.demands.specs.Demand1.{Doorway, Answers, AnswersTo, Untouched, UntouchedBut4, Total, Demand1}
 use Rattle.demands.specs.Meets.{Sound, Meets}
 
 -- which numbers a call can give is read off its lines
@@ -52,21 +50,18 @@ answers {k} numbers lines z h p = record {
     above zero y = absurd (not-both y (zero-passes lines p (ap numberOf y)))
     above (suc e) y = omega arith
 
-pub filled-says : {lines : List Line} {n : ℕ} {vs buffer buffer′ : List ℕ} {r : Counted} → Filled lines n vs buffer r buffer′ → countChecked r ≡ tried lines
-filled-says {lines} {n} f = ap countChecked (f .answer) ∙ said countChecked (Counted.Count n) (λ (i : ℕ). Counted.Refused i) refl (λ number. refl) (tried lines)
+pub filled-says : {lines : List Line} {n : ℕ} {vs buffer buffer′ : List ℕ} {r : Counted} → Filled lines n vs buffer r buffer′ → checked (countSays r) ≡ tried lines
+filled-says {lines} {n} f = said n (tried lines) (f .answer)
 
 pub breaks-say : {door : List Line} {w work pairs breaks work′ pairs′ breaks′ : List ℕ} {r : CountedBreaks}
-    → BreaksDone door w work pairs breaks r work′ pairs′ breaks′ → breaksChecked r ≡ tried (door ++ breaksLines w (length work) (length pairs) (length breaks))
-breaks-say {door} {w} {work} {pairs} {breaks} f =
-    let lines = door ++ breaksLines w (length work) (length pairs) (length breaks) in
-    let result = CountedBreaks.Counts (length (separatedIcflEnds w)) (length (separatedBreaks w)) in
-    ap breaksChecked (f .answer) ∙ said breaksChecked result (λ (i : ℕ). CountedBreaks.Refused i) refl (λ number. refl) (tried lines)
+    → BreaksDone door w work pairs breaks r work′ pairs′ breaks′ → checked (breaksSays r) ≡ tried (door ++ breaksLines w (length work) (length pairs) (length breaks))
+breaks-say f = said _ (tried _) (f .answer)
 
 card-number : {door : Door} {bytes es work pairs work′ pairs′ : List ℕ} {r : Batch} → BatchDone door bytes es work pairs r work′ pairs′
     → r .refusal ≡ numberOf (tried (batchLines es (length bytes)))
 card-number {door} {bytes} {es} {work} {pairs} f =
-    ap (λ (b : Batch). b .refusal) (f .answer)
-    ∙ reading (λ (b : Batch). b .refusal) (batchWith 0 (batchOf door bytes es work pairs .answers)) (λ number. batchWith number [])
+    ap (λ (b : ℕ × List (Says ℕ)). b .0) (f .answer)
+    ∙ reading (λ (b : ℕ × List (Says ℕ)). b .0) (batchWith 0 (batchOf door bytes es work pairs .answers)) (λ number. batchWith number [])
     (tried (batchLines es (length bytes)))
 
 pub card-says : {door : Door} {bytes es work pairs work′ pairs′ : List ℕ} {r : Batch} → BatchDone door bytes es work pairs r work′ pairs′
@@ -111,11 +106,12 @@ module _ (d : Doorway) (s : Sound d) (c : Calls) (m : Meets (d .door) c) where
   door-numbered w numbers own z h p =
       door-answers w numbers own (ap numbered z ∙ numbered-is (d .door w ++ own) (every-joined (ltb 0) (d .door w) own (s .positive w) p)) h p
 
-  pub demand-1 : Demand1 d c
-  demand-1 = record {
+  pub demand-1 : Total c → Demand1 d c
+  demand-1 t = record {
+    answered = t;
     test = λ w work work′ r h.
         let f = m .test w work r work′ h in
-        let says = ap testChecked (f .answer) ∙ verdict-checked w (tried (d .door w ++ extensionLines w (length work))) in
+        let says = said (verdictOf w) (tried (d .door w ++ extensionLines w (length work))) (f .answer) in
         (door-answers w _ _ says refl refl, untouched _ _ _ says (f .buffer));
     pieceCut = λ w work pairs work′ pairs′ r h.
         let f = m .pieceCut w work pairs r work′ pairs′ h in
@@ -131,7 +127,7 @@ module _ (d : Doorway) (s : Sound d) (c : Calls) (m : Meets (d .door) c) where
           answers _ _ says refl refl,
           untouched _ _ _ says (f .result),
           untouched _ _ _ says (f .worked),
-          (λ e y. ap (λ (b : Batch). b .places) (rw (sym says ∙ y) at (f .answer))),
+          (λ e y. ap (λ (b : ℕ × List (Says ℕ)). b .1) (rw (sym says ∙ y) at (f .answer))),
         );
     strictCut = λ w ends ends′ r h.
         let f = m .strictCut w ends r ends′ h in
@@ -144,12 +140,14 @@ module _ (d : Doorway) (s : Sound d) (c : Calls) (m : Meets (d .door) c) where
         (door-answers w _ _ (filled-says f) refl refl, untouched _ _ _ (filled-says f) (f .result));
     comparison = λ w first end start other r h.
         let lines = d .door w ++ compareLines (length w) first end start other in
-        let result = orderOf w first end start other in
-        door-answers w _ _
-        (ap comparisonChecked (m .comparison w first end start other r h .answer)
-        ∙ said comparisonChecked result (λ (i : ℕ). Comparison.Refused i) refl (λ number. refl) (tried lines))
-        refl refl;
-    reader = λ w ps k part number h. door-numbered w _ _ (m .reader w ps k part number h .number-is) refl refl;
+        door-answers w _ _ (said (orderOf w first end start other) (tried lines) (m .comparison w first end start other r h .answer)) refl refl;
+    reader = λ w ps k part number h.
+        let f = m .reader w ps k part number h in
+        let told = door-numbered w (7 ∷ 8 ∷ []) (factorLines w ps k) (f .number-is) refl refl in
+        (told, λ e y. rw (sym (told .first) ∙ y) at (f .part-is));
     summary = λ w ps r h.
-        door-numbered w _ _ (ap (λ s. s .refusal) (m .summary w ps r h .answer) ∙ summary-number (endsOf ps) (tried (d .door w ++ summaryLines w ps))) refl refl;
+        let f = m .summary w ps r h in
+        let number = ap (λ s. s .refusal) (f .answer) ∙ summary-number (endsOf ps) (tried (d .door w ++ summaryLines w ps)) in
+        let told = door-numbered w (7 ∷ []) (summaryLines w ps) number refl refl in
+        (told, λ e y. rw (sym (told .first) ∙ y) at (f .answer));
   }

@@ -10,7 +10,7 @@ use lib.IntN.{pos, negsuc}
 use Rattle.words.specs.Words.{_≪_, _⊑_, _<ₗ_}
 use Rattle.words.specs.Separated.{UpToSeparator}
 use Rattle.words.specs.Pairs.{endsOf}
-use Rattle.theory.specs.Statements.{SharedMost, Part, WholePieces, Compatible}
+use Rattle.theory.specs.Statements.{SignOf, SharedMost, Part, WholePieces, Compatible}
 use Rattle.theory.specs.SeparatedStatements.{UnlessMark, UnmarkedPieces}
 use Rattle.checks.specs.declared.Counted.{Counted}
 use Rattle.compare.specs.declared.suffixes.Comparison.{Comparison}
@@ -32,6 +32,9 @@ pub record Demand3 (w es ss : List ℕ) (compare : ℕ → ℕ → ℕ → ℕ �
   pub compatible : Compatible (UnmarkedPieces w es) (length w) (λ first end start other. signOf (compare first end start other))
   pub decided : (first end start other : ℕ) → WholePieces es first end → first ≤ start → start < end → first ≤ other → other < end → ¬ (start ≡ other)
       → (signOf (compare first end start other) ≡ negsuc 0) ⊎ (signOf (compare first end start other) ≡ pos 1)
+  -- of any stretch: "It compares the two remainders of the stretch in the inverse order: −1 if the first start's comes first, 0 if the starts are equal, +1
+  -- otherwise."
+  pub signed : (first end start other : ℕ) → Inside (length w) first end start other → SignOf w first end start other (signOf (compare first end start other))
   -- request 104, of any stretch: "the number of equal leading bytes before the stretch ends for either of them. For equal starts that is the whole remainder."
   pub shared : (first end start other : ℕ) → Inside (length w) first end start other → SharedMost w end start other (commonOf (compare first end start other))
   pub remainder : (first end start other : ℕ) → Inside (length w) first end start other → start ≡ other

@@ -10,17 +10,18 @@ use Rattle.words.specs.Words.{sign, commonWithin}
 use Rattle.words.specs.Separated.{separatedIcflEnds, separatedCflInEnds}
 use Rattle.words.specs.Pairs.{endsOf}
 use Rattle.theory.specs.SeparatedStatements.{UnmarkedPieces, SeparatedDemand3}
-use Rattle.theory.specs.Statements.{WholePieces}
-use Rattle.theory.specs.orders.SignLaws.{SignOf, before, equal, after, sign-is}
+use Rattle.theory.specs.Statements.{SignOf, WholePieces}
+use Rattle.theory.specs.orders.SignLaws.{sign-is}
 use Rattle.theory.specs.orders.CommonWithin.{common-within-is, common-within-same, common-within-sym, common-within-range}
 use Rattle.theory.specs.places.Parts.{rises-below}
 use Rattle.theory.specs.stretches.Factors.{separated-icfl-ends-rise}
 use Rattle.theory.specs.stretches.RecordPairs.{pairs-ends}
 use Rattle.theory.specs.stretches.SeparatedDemand3.{separated-demand-3}
+use Rattle.checks.specs.Answers.{gives}
 use Rattle.checks.proofs.LineLaws.{both-pass, filled-front}
 use Rattle.icfl.proofs.IcflCases.{pairs-front}
 use Rattle.compare.specs.declared.suffixes.Comparison.{Comparison}
-use Rattle.compare.specs.Compare.{signOf, commonOf, compareLines, orderOf}
+use Rattle.compare.specs.Compare.{comparisonSays, signSaid, commonSaid, signOf, commonOf, compareLines, orderOf}
 use Rattle.compare.proofs.ComparisonLaws.{Within, within-passes}
 use Rattle.demands.specs.Calls.{Calls}
 use Rattle.demands.specs.Demand1.{Doorway}
@@ -42,7 +43,7 @@ module _ (d : Doorway) (sound : Sound d) (c : Calls) (m : Meets (d .door) c) (w 
 
   -- inside an accepted range the comparison answers sign and number
   module _ (first end start other : ℕ) (h : Inside (length w) first end start other) where
-    ordered : compare first end start other ≡ orderOf w first end start other
+    ordered : comparisonSays (compare first end start other) ≡ gives (orderOf w first end start other)
     ordered =
         let within : Within w first end start other = record {
           inside = h .range;
@@ -56,10 +57,10 @@ module _ (d : Doorway) (sound : Sound d) (c : Calls) (m : Meets (d .door) c) (w 
         (within-passes w first end start other within))
 
     signed : signOf (compare first end start other) ≡ sign w first end start other
-    signed = ap signOf ordered
+    signed = ap signSaid ordered
 
     counted : commonOf (compare first end start other) ≡ commonWithin w first end start other
-    counted = ap commonOf ordered
+    counted = ap commonSaid ordered
 
   -- the same two starts in the whole record
   widened : (first end start other : ℕ) → Inside (length w) first end start other → Inside (length w) 0 (length w) start other
@@ -95,9 +96,9 @@ module _ (d : Doorway) (sound : Sound d) (c : Calls) (m : Meets (d .door) c) (w 
       where
         go : {s : ℤ} → SignOf w first end start other s → signOf (compare first end start other) ≡ s
             → (signOf (compare first end start other) ≡ negsuc 0) ⊎ (signOf (compare first end start other) ≡ pos 1)
-        go (before x k) e = inl e
-        go (equal z) e = absurd (n z)
-        go (after x k) e = inr e
+        go (SignOf.before x k) e = inl e
+        go (SignOf.equal z) e = absurd (n z)
+        go (SignOf.after x k) e = inr e
 
     same-sign : UnmarkedPieces w es first end → signOf (compare first end start other) ≡ signOf (compare 0 (length w) start other)
     same-sign g =
@@ -110,6 +111,7 @@ module _ (d : Doorway) (sound : Sound d) (c : Calls) (m : Meets (d .door) c) (w 
   demand-3 = record {
     compatible = λ first end start other g a b p q n. same-sign first end start other a b p q n g;
     decided = λ first end start other g a b p q n. sign-decided first end start other a b p q n g;
+    signed = λ first end start other h. rw (signed first end start other h) (sign-is w first end start other);
     shared = λ first end start other h.
         rw (counted first end start other h)
         (common-within-is w first end start other (h .range) (h .start-from) (h .start-below) (h .other-from) (h .other-below));

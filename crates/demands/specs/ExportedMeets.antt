@@ -1,42 +1,44 @@
 -- The answers of the exported functions meet the promises of the calls behind the same door (exported-meets), and are given for all arguments
 -- (exported-total).
 use mathlib.Core.Path.{_≡_, refl, ap, sym, _∙_}
-use mathlib.Core.Bool.{Bool, true, false}
+use mathlib.Core.Bool.{true}
 use mathlib.Core.List.{List, [], _∷_, _++_, map}
 use Prim.Native.Nat.{ℕ, zero, suc, _-_, _<_}
 use native.Mathlib.Omega.{arith}
 use lib.ListN.{length, getD, replicate}
 use lib.Seq.{slice, slice-empty}
 use lib.Dec.{ltb}
+use lib.IntN.{ℤ}
 use borrow.Author.Tests.{ne-eqb}
-use Rattle.words.specs.Words.{isInverseLyndon}
-use Rattle.words.specs.Factorizations.{failingLength, prefixLength, borderLength}
 use Rattle.words.specs.Separated.{separatedIcflEnds}
 use Rattle.words.specs.Pairs.{endsOf}
-use Rattle.theory.specs.orders.Decisions.{decides-false}
-use Rattle.theory.specs.lyndon.WordTests.{inverse-lyndon-test}
 use Rattle.theory.specs.icfl.Failing.{failing-is}
 use Rattle.conditions.specs.Conditions.{mostRecords}
 use Rattle.pairs.specs.PairedList.{factorFrom}
 use Rattle.checks.specs.Lines.{Line, tried, decided, _unless_then_}
-use Rattle.checks.specs.Answers.{numberOf}
+use Rattle.checks.specs.Answers.{numberOf, Says, gives, refuses, checked, countSays}
 use Rattle.checks.specs.declared.Checked.{Checked}
 use Rattle.checks.specs.declared.Checked.the-variants.{Passed, Refused}
 use Rattle.checks.specs.declared.Counted.{Counted}
-use Rattle.checks.proofs.LineLaws.{both-passed, everyNumber, every-joined, reading, zero-passes, not-both}
+use Rattle.checks.proofs.LineLaws.{both-passed, everyNumber, every-joined, reading, said, gave, zero-passes, not-both}
 use Rattle.extension.specs.declared.Extension.{Extension}
-use Rattle.extension.specs.Extension.{verdictAs, extensionOf, extensionLines}
-use Rattle.icfl.specs.Icfl.{icflLines, icflAnswer}
+use Rattle.extension.specs.Extension.{testSays, verdictOf, extensionLines}
+use Rattle.extension.proofs.VerdictLaws.{fails-told}
+use Rattle.icfl.specs.Icfl.{icflLines}
+use Rattle.icfl_breaks.specs.declared.CountedBreaks.{CountedBreaks}
+use Rattle.icfl_breaks.specs.IcflBreaks.{breaksLines, breaksSays}
+use Rattle.compare.specs.declared.suffixes.Comparison.{Comparison}
+use Rattle.compare.specs.Compare.{comparisonSays, compareLines}
 use Rattle.batch.specs.declared.Batch.{Batch}
 use Rattle.batch.specs.declared.Place.{Place}
-use Rattle.batch.specs.Batch.{recordsFrom, uncut, batchOf, place, batchWith, batchLines}
+use Rattle.batch.specs.Batch.{recordsFrom, uncut, batchOf, saysOf, batchSays, batchWith, batchLines}
 use Rattle.batch.proofs.FoldLaws.{batch-answers, Every, every-added}
 use Rattle.reading.specs.Factor.{factorLines, FactorAt}
-use Rattle.numbers.specs.Numbers.{testNumbers, countNumbers, breaksNumbers, repliesOf, batchNumbers, comparisonNumbers}
+use Rattle.numbers.specs.Numbers.{testNumbers, countNumbers, breaksNumbers, replyOf, batchNumbers, comparisonNumbers}
 use Rattle.exports.specs.Exports.{factorNumbers}
 use Rattle.demands.specs.Calls.{exportedBehind, Reads, verdictBy, countBy, countsBy, batchBy, comparisonBy}
-use Rattle.demands.specs.Demand1.{Doorway}
-use Rattle.demands.specs.Meets.{Sound, Meets, Total, behind-total}
+use Rattle.demands.specs.Demand1.{Doorway, Total}
+use Rattle.demands.specs.Meets.{Sound, Meets, behind-total}
 
 -- ---- the numbers of an answer that may be given stand for it, since no line has the number 0
 
@@ -46,49 +48,60 @@ read-back numbers by r Allowed back h =
     let given = h .2 in
     rw (h .1 ∙ ap by (given .2) ∙ back (given .0) (given .1)) (given .1)
 
--- an answer that is a result unless a line refuses
-back : {A N : Type 0} (numbers : A → N) (by : N → A) (lines : List Line) → everyNumber (ltb 0) lines ≡ true → (result : A) (refusal : ℕ → A)
-    → (tried lines ≡ Passed → by (numbers result) ≡ result) → ((e : ℕ) → by (numbers (refusal (suc e))) ≡ refusal (suc e))
-    → (a : A) → a ≡ result unless lines then refusal → by (numbers a) ≡ a
-back numbers by lines p result refusal good bad a z = ap (λ t. by (numbers t)) z ∙ go (tried lines) good (zero-passes lines p) ∙ sym z
-  where
-    go : (k : Checked) → (k ≡ Passed → by (numbers result) ≡ result) → (numberOf k ≡ 0 → k ≡ Passed)
-        → by (numbers (decided k result refusal)) ≡ decided k result refusal
-    go Passed good h = good refl
-    go (Refused zero) good h = absurd (not-both refl (h refl))
-    go (Refused (suc e)) good h = bad e
+readable : (a : Counted) → ¬ (countSays a ≡ refuses 0) → countBy (countNumbers a) ≡ a
+readable (Counted.Count n) h = refl
+readable (Counted.Refused zero) h = absurd (h refl)
+readable (Counted.Refused (suc number)) h = refl
 
--- a count
-count-back : (lines : List Line) → everyNumber (ltb 0) lines ≡ true → (n : ℕ) (a : Counted) → a ≡ Counted.Count n unless lines then Counted.Refused
-    → countBy (countNumbers a) ≡ a
-count-back lines p n = back countNumbers countBy lines p (Counted.Count n) (λ i. Counted.Refused i) (λ h. refl) (λ e. refl)
+-- no answer says 0
+module _ (lines : List Line) (positive : everyNumber (ltb 0) lines ≡ true) where
+  never-0 : {A : Type 0} (values : A) {s : Says A} → s ≡ gives values unless lines then refuses → ¬ (s ≡ refuses 0)
+  never-0 values {s} e z =
+      let met : Refused 0 ≡ tried lines = sym (ap checked z) ∙ said values (tried lines) e in
+      not-both (sym met) (zero-passes lines positive (ap numberOf (sym met)))
 
--- L tells the verdict: it is 0 for an inverse Lyndon word alone
-verdict-back : (w : List ℕ) → 0 < length w → verdictBy (testNumbers (extensionOf w)) ≡ extensionOf w
-unfolding extensionOf
-verdict-back w s = go (isInverseLyndon w) refl
-  where
-    go : (t : Bool) → isInverseLyndon w ≡ t
-        → (let a = verdictAs t (failingLength w) (prefixLength w) (borderLength w) in verdictBy (testNumbers a) ≡ a)
-    go true d = refl
-    go false d =
-        let positive : 0 < failingLength w = failing-is w s (decides-false (inverse-lyndon-test w) d) .positive in
-        rw (ne-eqb (failingLength w) 0 (λ e. omega (arith, positive))) refl
+  count-back : (n : ℕ) (a : Counted) → countSays a ≡ gives n unless lines then refuses → countBy (countNumbers a) ≡ a
+  count-back n a e = readable a (never-0 n e)
+
+  breaks-back : (ns : ℕ × ℕ) (a : CountedBreaks) → breaksSays a ≡ gives ns unless lines then refuses → countsBy (breaksNumbers a) ≡ a
+  breaks-back ns (CountedBreaks.Counts factors breaks) e = refl
+  breaks-back ns (CountedBreaks.Refused zero) e = absurd (never-0 ns e refl)
+  breaks-back ns (CountedBreaks.Refused (suc number)) e = refl
+
+  comparison-back : (values : ℤ × ℕ) (a : Comparison) → comparisonSays a ≡ gives values unless lines then refuses → comparisonBy (comparisonNumbers a) ≡ a
+  comparison-back values (Comparison.Order sign common) e = refl
+  comparison-back values (Comparison.Refused zero) e = absurd (never-0 values e refl)
+  comparison-back values (Comparison.Refused (suc number)) e = refl
+
+  -- L tells the verdict: it is 0 for an inverse Lyndon word alone
+  test-back : (w : List ℕ) → (tried lines ≡ Passed → 0 < length w) → (a : Extension) → testSays a ≡ gives (verdictOf w) unless lines then refuses
+      → verdictBy (testNumbers a) ≡ a
+  test-back w some Extension.InverseLyndon e = refl
+  test-back w some (Extension.Failing l p r) e =
+      let result = gave (verdictOf w) (tried lines) e refl in
+      let told = fails-told w l p r (some (result .0)) (result .1) in
+      let positive : 0 < l = rw (told .failing) (failing-is w (some (result .0)) (told .not) .positive) in
+      rw (ne-eqb l 0 (λ z. omega (arith, positive, z))) refl
+  test-back w some (Extension.Refused zero) e = absurd (never-0 (verdictOf w) e refl)
+  test-back w some (Extension.Refused (suc number)) e = refl
 
 -- a batch: the answer of each place
-abbrev Readable : Counted → Type 0
-Readable a = countBy (countNumbers a) ≡ a
+abbrev Positive : Says ℕ → Type 0
+Positive s = ¬ (s ≡ refuses 0)
 
-abbrev readBack : List Place → List Place
-readBack places = map (λ y. place (countBy (y .refusal, y .count))) (repliesOf places)
+readBack : List Place → List Place
+readBack places = map (λ y. record { answer = countBy (y .refusal, y .count) }) (map replyOf (saysOf places))
 
-places-back : (answers : List Counted) → Every Readable answers → (n : ℕ) → (let places = map place answers ++ replicate n (place (Counted.Count 0)) in
-    readBack places ≡ places)
-places-back [] h zero = refl
-places-back [] h (suc n) = ap (λ (t : List Place). place (Counted.Count 0) ∷ t) (places-back [] tt n)
-places-back (a ∷ answers) h n =
-    ap (λ (x : Counted). place x ∷ readBack (map place answers ++ replicate n (place (Counted.Count 0)))) (h .0)
-    ∙ ap (λ (t : List Place). place a ∷ t) (places-back answers (h .1) n)
+places-back : (places : List Place) → Every Positive (saysOf places) → readBack places ≡ places
+unfolding readBack
+places-back [] h = refl
+places-back (p ∷ places) h =
+    ap (λ (a : Counted). record { answer = a } ∷ readBack places) (readable (p .answer) (h .0)) ∙ ap (λ (t : List Place). p ∷ t) (places-back places (h .1))
+
+blanks-positive : (answers : List (Says ℕ)) → Every Positive answers → (n : ℕ) → Every Positive (answers ++ replicate n (gives 0))
+blanks-positive [] h zero = tt
+blanks-positive [] h (suc n) = ((λ e. let z : _≡_ {A = ℕ} 0 1 = cc in absurd (omega arith)), blanks-positive [] tt n)
+blanks-positive (a ∷ answers) h n = (h .0, blanks-positive answers (h .1) n)
 
 -- ---- behind a door
 
@@ -97,25 +110,22 @@ module _ (d : Doorway) (s : Sound d) where
   no-zero : (w : List ℕ) (own : List Line) → everyNumber (ltb 0) own ≡ true → everyNumber (ltb 0) (d .door w ++ own) ≡ true
   no-zero w own = every-joined (ltb 0) (d .door w) own (s .positive w)
 
-  test-back : (w work : List ℕ) (a : Extension) → a ≡ extensionOf w unless d .door w ++ extensionLines w (length work) then Extension.Refused
-      → verdictBy (testNumbers a) ≡ a
-  test-back w work =
-      back testNumbers verdictBy (d .door w ++ extensionLines w (length work)) (no-zero w _ refl) (extensionOf w) (λ i. Extension.Refused i)
-      (λ h. verdict-back w (s .accepts w (both-passed (d .door w) (extensionLines w (length work)) h .0) .nonempty)) (λ e. refl)
-
-  single-back : (w work pairs : List ℕ) → Readable (icflAnswer (d .door w) w work pairs)
-  single-back w work pairs = count-back (d .door w ++ icflLines w (length work) (length pairs)) (no-zero w _ refl) (length (separatedIcflEnds w)) _ refl
-
   batch-back : (bytes es work pairs : List ℕ) (a : Batch)
-      → a ≡ batchWith 0 (batchOf (d .door) bytes es work pairs .answers) unless batchLines es (length bytes) then (λ number. batchWith number [])
+      → batchSays a ≡ batchWith 0 (batchOf (d .door) bytes es work pairs .answers) unless batchLines es (length bytes) then (λ number. batchWith number [])
       → batchBy (batchNumbers a) ≡ a
-  batch-back bytes es work pairs =
+  unfolding readBack
+  batch-back bytes es work pairs a e =
       let answers = batchOf (d .door) bytes es work pairs .answers in
-      let readable : Every Readable answers
-      = rw (batch-answers (d .door) bytes es work pairs) (every-added (d .door) Readable single-back (uncut work pairs) (recordsFrom 0 es bytes)) in
-      back batchNumbers batchBy (batchLines es (length bytes)) refl (batchWith 0 answers) (λ number. batchWith number [])
-      (λ h. ap (λ (t : List Place). record { refusal = 0; places = t }) (places-back answers readable (mostRecords - length answers)))
-      (λ e. ap (λ (t : List Place). record { refusal = suc e; places = t }) (places-back [] tt mostRecords))
+      let each : Every Positive answers = rw (batch-answers (d .door) bytes es work pairs)
+      (every-added (d .door) Positive (λ w work pairs. never-0 _ (no-zero w (icflLines w (length work) (length pairs)) refl) (length (separatedIcflEnds w)) refl)
+      (uncut work pairs) (recordsFrom 0 es bytes))
+      in
+      ap (λ (t : List Place). record { refusal = a .refusal; places = t }) (places-back (a .places) (go (tried (batchLines es (length bytes))) answers each e))
+    where
+      go : (k : Checked) (answers : List (Says ℕ)) → Every Positive answers → batchSays a ≡ decided k (batchWith 0 answers) (λ number. batchWith number [])
+          → Every Positive (saysOf (a .places))
+      go Passed answers h e = rw (ap (λ (b : ℕ × List (Says ℕ)). b .1) e) (blanks-positive answers h (mostRecords - length answers))
+      go (Refused number) answers h e = rw (ap (λ (b : ℕ × List (Says ℕ)). b .1) e) (blanks-positive [] tt mostRecords)
 
   -- from 0 to 0, the part beside a refusal is empty
   part-back : (w ps : List ℕ) (k : ℕ) (part : List ℕ) (x : ℕ × ℕ × ℕ) → part ≡ slice (x .1) (x .2) w → x ≡ factorNumbers (d .door w) w ps k
@@ -135,16 +145,18 @@ module _ (d : Doorway) (s : Sound d) where
 
   pub exported-meets : Meets (d .door) (exportedBehind (d .door))
   exported-meets = record {
-    test = λ w work r work′ h. read-back _ _ r _ (λ a f. test-back w work a (f .answer)) h;
+    test = λ w work r work′ h.
+        read-back _ _ r _ (λ a f. test-back _ (no-zero w (extensionLines w (length work)) refl) w
+        (λ h. s .accepts w (both-passed (d .door w) (extensionLines w (length work)) h .0) .nonempty) a (f .answer)) h;
     pieceCut = λ w work pairs r work′ pairs′ h. read-back _ _ r _ (λ a f. count-back _ (no-zero w _ refl) _ a (f .answer)) h;
     reasonedCut = λ w work pairs breaks r work′ pairs′ breaks′ h.
-        read-back _ _ r _ (λ a f. back breaksNumbers countsBy _ (no-zero w _ refl) _ _ (λ p. refl) (λ e. refl) a (f .answer)) h;
+        read-back _ _ r _ (λ a f. breaks-back _ (no-zero w (breaksLines w (length work) (length pairs) (length breaks)) refl) _ a (f .answer)) h;
     card = λ bytes es work pairs r work′ pairs′ h. read-back _ _ r _ (λ a f. batch-back bytes es work pairs a (f .answer)) h;
     strictCut = λ w ends r ends′ h. read-back _ _ r _ (λ a f. count-back _ (no-zero w _ refl) _ a (f .answer)) h;
     startTable = λ w out r out′ h. read-back _ _ r _ (λ a f. count-back _ (no-zero w _ refl) _ a (f .answer)) h;
     repetitions = λ w out r out′ h. read-back _ _ r _ (λ a f. count-back _ (no-zero w _ refl) _ a (f .answer)) h;
     comparison = λ w first end start other r h.
-        read-back _ _ r _ (λ a f. back comparisonNumbers comparisonBy _ (no-zero w _ refl) _ _ (λ p. refl) (λ e. refl) a (f .answer)) h;
+        read-back _ _ r _ (λ a f. comparison-back _ (no-zero w (compareLines (length w) first end start other) refl) _ a (f .answer)) h;
     reader = λ w ps k part number h. part-back w ps k part (number, h .0, h .1) (h .2) (h .3);
     summary = λ w ps r h. h;
   }
@@ -153,7 +165,14 @@ module _ (d : Doorway) (s : Sound d) where
   exported-total =
       let total = behind-total (d .door) in
       record {
+        test = λ w work. (_, _, (_, refl, (_, total .test w work .2, refl)));
         pieceCut = λ w work pairs. (_, _, _, (_, refl, (_, total .pieceCut w work pairs .3, refl)));
+        reasonedCut = λ w work pairs breaks. (_, _, _, _, (_, refl, (_, total .reasonedCut w work pairs breaks .4, refl)));
+        card = λ bytes es work pairs. (_, _, _, (_, refl, (_, total .card bytes es work pairs .3, refl)));
         strictCut = λ w ends. (_, _, (_, refl, (_, total .strictCut w ends .2, refl)));
+        startTable = λ w out. (_, _, (_, refl, (_, total .startTable w out .2, refl)));
+        repetitions = λ w out. (_, _, (_, refl, (_, total .repetitions w out .2, refl)));
         comparison = λ w first end start other. (_, (_, refl, (_, total .comparison w first end start other .1, refl)));
+        reader = λ w ps k. let x = factorNumbers (d .door w) w ps k in (slice (x .1) (x .2) w, x .0, (x .1, x .2, refl, refl));
+        summary = total .summary;
       }

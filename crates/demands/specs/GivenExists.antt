@@ -12,15 +12,14 @@ use Rattle.theory.specs.places.EndsRise.{rises-few}
 use Rattle.theory.specs.stretches.Factors.{separated-icfl-ends-rise, separated-cfl-in-ends-rise}
 use Rattle.checks.specs.Lines.{tried}
 use Rattle.checks.specs.declared.Checked.the-variants.{Passed}
-use Rattle.checks.specs.declared.Counted.{Counted}
-use Rattle.checks.proofs.LineLaws.{all-pass, both-pass}
+use Rattle.checks.proofs.LineLaws.{all-pass, both-pass, count-given}
 use Rattle.icfl.specs.Icfl.{icflLines}
 use Rattle.cfl.specs.CflIn.{cflInLines}
 use Rattle.compare.specs.declared.suffixes.Comparison.{Comparison}
 use Rattle.demands.specs.Calls.{Calls}
-use Rattle.demands.specs.Demand1.{Doorway}
+use Rattle.demands.specs.Demand1.{Doorway, Total}
 use Rattle.demands.specs.Demand3.{Given}
-use Rattle.demands.specs.Meets.{Sound, Meets, Total}
+use Rattle.demands.specs.Meets.{Sound, Meets}
 
 -- entries that every record's cuts fit into
 icfl-room : (w : List ℕ) (work ends : ℕ) → 3 * length w ≤ work → 2 * length w ≤ ends → tried (icflLines w work ends) ≡ Passed
@@ -47,8 +46,8 @@ module _ (d : Doorway) (sound : Sound d) (c : Calls) (m : Meets (d .door) c) (t 
       let room = icfl-room w (length work) (length ends) (omega (arith, size-work)) (omega (arith, size)) in
       let passes = both-pass (d .door w) (icflLines w (length work) (length ends)) let-in room in
       let strict-passes = both-pass (d .door w) (cflInLines w (length ends)) let-in (cfl-in-room w (length ends) (omega (arith, size))) in
-      let pieces : a .0 ≡ Counted.Count (length (separatedIcflEnds w)) = rw passes at (m .pieceCut w work ends (a .0) (a .1) (a .2) (a .3) .answer) in
-      let strict : b .0 ≡ Counted.Count (length (separatedCflInEnds w)) = rw strict-passes at (m .strictCut w ends (b .0) (b .1) (b .2) .answer) in (
+      let pieces = count-given (a .0) (rw passes at (m .pieceCut w work ends (a .0) (a .1) (a .2) (a .3) .answer)) in
+      let strict = count-given (b .0) (rw strict-passes at (m .strictCut w ends (b .0) (b .1) (b .2) .answer)) in (
         endsOf (take (2 * length (separatedIcflEnds w)) (a .2)),
         take (length (separatedCflInEnds w)) (b .1),
         (λ first end start other. t .comparison w first end start other .0),

@@ -6,11 +6,13 @@
 --   OneCall            the library but for one call
 --   Careless           paper 01's careless cutters, and the demand that shuts each of them out
 --   CarelessReasons    cuts with breaks that are careless, likewise
---   CarelessComparing  ends and stretches that demand 3 shuts out
---   CarelessMarks      cuts and tests that are careless of marks, likewise
+--   CarelessComparing  ends, a comparison and stretches that demand 3 shuts out
+--   CarelessMarks      cuts, tests and comparisons that are careless of marks, likewise
 --   CarelessCards      calls that are careless of cards, likewise
 --   CarelessRuns       calls that are careless of repetitions, likewise
 --   CarelessPairs      cuts, readers and summaries that are careless of pairs, likewise
+--   CarelessReading    readers and summaries that are careless of what they give, likewise
+--   CarelessBuffers    cuts and tests that are careless of the lent buffers, likewise
 pub mod Calls
 pub mod Demand1
 pub mod Demand2
@@ -24,6 +26,7 @@ pub mod PairsHold
 pub mod Demand2Holds
 pub mod Demand3Holds
 pub mod GivenExists
+pub mod ReadingHolds
 pub mod CardHolds
 pub mod RepetitionsHold
 pub mod DemandsHold
@@ -35,3 +38,5 @@ pub mod CarelessMarks
 pub mod CarelessCards
 pub mod CarelessRuns
 pub mod CarelessPairs
+pub mod CarelessReading
+pub mod CarelessBuffers

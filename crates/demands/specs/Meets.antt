@@ -1,25 +1,36 @@
--- Doorways that let in just the records of 1 to so many bytes (Sound), calls whose answers meet the promises of the calls behind a door (Meets), and calls that
--- give an answer for all arguments (Total). The record's lines are such a doorway (record-door), and the calls behind a door are such calls
--- (behind-meets, behind-total); the exported functions: ExportedMeets.
-use mathlib.Core.Path.{_≡_, refl}
-use mathlib.Core.Bool.{true}
-use mathlib.Core.List.{List}
+-- Doorways that let in just the records of 1 to so many bytes (Sound), and calls whose answers meet the promises of the calls behind a door (Meets). The record's
+-- lines are such a doorway (record-door), and the calls behind a door are such calls (behind-meets) and answer (behind-total); the exported functions:
+-- ExportedMeets.
+use mathlib.Core.Path.{_≡_, refl, ap}
+use mathlib.Core.Bool.{Bool, true, false}
+use mathlib.Core.List.{List, [], _∷_, _++_}
 use Prim.Native.Nat.{ℕ, _≤_}
 use lib.ListN.{length}
 use lib.Dec.{ltb}
-use Rattle.checks.specs.Lines.{Door, tried, Accepted}
-use Rattle.checks.specs.declared.Checked.the-variants.{Passed}
+use lib.IntN.{ℤ}
+use Rattle.words.specs.Words.{isInverseLyndon}
+use Rattle.words.specs.Factorizations.{failingLength, prefixLength, borderLength}
+use Rattle.checks.specs.Lines.{Door, tried, decided, Accepted}
+use Rattle.checks.specs.Answers.{Says, gives, refuses, countSays}
+use Rattle.checks.specs.declared.Checked.{Checked}
+use Rattle.checks.specs.declared.Checked.the-variants.{Passed, Refused}
 use Rattle.checks.specs.declared.Counted.{Counted}
 use Rattle.checks.proofs.LineLaws.{everyNumber, among}
 use Rattle.checks.proofs.RecordLaws.{accepted, record-passes}
 use Rattle.extension.specs.declared.Extension.{Extension}
+use Rattle.extension.specs.Extension.{testSays, verdictAs, verdictOf, extensionLines}
+use Rattle.icfl.specs.Icfl.{icflAnswer}
 use Rattle.icfl.proofs.IcflCases.{NoFour}
 use Rattle.icfl_breaks.specs.declared.CountedBreaks.{CountedBreaks}
+use Rattle.icfl_breaks.specs.IcflBreaks.{breaksSays}
 use Rattle.batch.specs.declared.Batch.{Batch}
+use Rattle.batch.specs.declared.Place.{Place}
+use Rattle.batch.specs.Batch.{saysOf, batchSays}
 use Rattle.compare.specs.declared.suffixes.Comparison.{Comparison}
+use Rattle.compare.specs.Compare.{comparisonSays}
 use Rattle.summary.specs.declared.Summary.{Summary}
 use Rattle.demands.specs.Calls.{Calls, behind}
-use Rattle.demands.specs.Demand1.{Doorway, recordDoor}
+use Rattle.demands.specs.Demand1.{Doorway, recordDoor, Total}
 
 -- ---- doorways
 
@@ -62,12 +73,6 @@ pub record Within (c calls : Calls) : Type 0 where
 abbrev pub Meets : Door → Calls → Type 0
 Meets door c = Within c (behind door)
 
--- the three calls of demand 3 answer
-pub record Total (c : Calls) : Type 0 where
-  pub pieceCut : (w work pairs : List ℕ) → (r : Counted) × (work′ pairs′ : List ℕ) × c .PieceCut w work pairs r work′ pairs′
-  pub strictCut : (w ends : List ℕ) → (r : Counted) × (ends′ : List ℕ) × c .StrictCut w ends r ends′
-  pub comparison : (w : List ℕ) (first end start other : ℕ) → (r : Comparison) × c .Comparing w first end start other r
-
 -- ---- the calls behind a door, of which the library's are one
 
 pub behind-meets : (door : Door) → Meets door (behind door)
@@ -84,9 +89,48 @@ behind-meets door = record {
   summary = λ w ps r h. h;
 }
 
+-- for everything that can be said there is an answer that says it
+counted : (s : Says ℕ) → (r : Counted) × (countSays r ≡ s)
+counted (gives n) = (Counted.Count n, refl)
+counted (refuses number) = (Counted.Refused number, refl)
+
+reasoned : (s : Says (ℕ × ℕ)) → (r : CountedBreaks) × (breaksSays r ≡ s)
+reasoned (gives (factors, breaks)) = (CountedBreaks.Counts factors breaks, refl)
+reasoned (refuses number) = (CountedBreaks.Refused number, refl)
+
+compared : (s : Says (ℤ × ℕ)) → (r : Comparison) × (comparisonSays r ≡ s)
+compared (gives (sign, common)) = (Comparison.Order sign common, refl)
+compared (refuses number) = (Comparison.Refused number, refl)
+
+tested : (w : List ℕ) (k : Checked) → (r : Extension) × (testSays r ≡ decided k (gives (verdictOf w)) refuses)
+unfolding verdictOf
+tested w (Refused number) = (Extension.Refused number, refl)
+tested w Passed = go (isInverseLyndon w)
+  where
+    go : (t : Bool) → (r : Extension) × (testSays r ≡ gives (verdictAs t (failingLength w) (prefixLength w) (borderLength w)))
+    go true = (Extension.InverseLyndon, refl)
+    go false = (Extension.Failing (failingLength w) (prefixLength w) (borderLength w), refl)
+
+placed : (ss : List (Says ℕ)) → (places : List Place) × (saysOf places ≡ ss)
+placed [] = ([], refl)
+placed (s ∷ ss) =
+    let x = counted s in
+    let later = placed ss in
+    ((record { answer = x .0 }) ∷ later .0, rw (x .1, later .1) refl)
+
+batched : (s : ℕ × List (Says ℕ)) → (r : Batch) × (batchSays r ≡ s)
+batched (number, ss) = let x = placed ss in (record { refusal = number; places = x .0 }, ap (λ (t : List (Says ℕ)). (number, t)) (x .1))
+
 pub behind-total : (door : Door) → Total (behind door)
 behind-total door = record {
-  pieceCut = λ w work pairs. (_, _, _, record { answer = refl; result = refl; worked = refl });
-  strictCut = λ w ends. (_, _, record { answer = refl; result = refl });
-  comparison = λ w first end start other. (_, record { answer = refl });
+  test = λ w work. let x = tested w (tried (door w ++ extensionLines w (length work))) in (x .0, _, record { answer = x .1; buffer = refl });
+  pieceCut = λ w work pairs. let x = counted (icflAnswer (door w) w work pairs) in (x .0, _, _, record { answer = x .1; result = refl; worked = refl });
+  reasonedCut = λ w work pairs breaks. let x = reasoned _ in (x .0, _, _, _, record { answer = x .1; pairs-are = refl; breaks-are = refl; worked = refl });
+  card = λ bytes es work pairs. let x = batched _ in (x .0, _, _, record { answer = x .1; result = refl; worked = refl });
+  strictCut = λ w ends. let x = counted _ in (x .0, _, record { answer = x .1; result = refl });
+  startTable = λ w out. let x = counted _ in (x .0, _, record { answer = x .1; result = refl });
+  repetitions = λ w out. let x = counted _ in (x .0, _, record { answer = x .1; result = refl });
+  comparison = λ w first end start other. let x = compared _ in (x .0, record { answer = x .1 });
+  reader = λ w ps k. (_, _, record { number-is = refl; part-is = refl });
+  summary = λ w ps. (_, record { answer = refl });
 }

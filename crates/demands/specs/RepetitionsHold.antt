@@ -15,6 +15,7 @@ use Rattle.theory.specs.stretches.SeparatedRuns.{
 use Rattle.buffers.specs.Buffers.{written}
 use Rattle.checks.specs.Lines.{Line, tried}
 use Rattle.checks.specs.declared.Checked.the-variants.{Passed}
+use Rattle.checks.specs.Answers.{gives, countSays}
 use Rattle.checks.specs.declared.Counted.{Counted}
 use Rattle.checks.proofs.LineLaws.{both-passed}
 use Rattle.inserting.specs.Entries.{entriesOfRuns}
@@ -37,8 +38,8 @@ module _ {w out out′ : List ℕ} {r : Counted} (h : RepetitionsListed w out r 
   listed-only : h .listed ≡ separatedRuns w
   listed-only = separated-runs-unique w (h .listed) (h .in-order) (h .sound) (h .complete)
 
-  pub count-only : r ≡ Counted.Count (length (separatedRuns w))
-  count-only = h .count ∙ ap (λ (ts : List Triple). Counted.Count (length ts)) listed-only
+  pub count-only : countSays r ≡ gives (length (separatedRuns w))
+  count-only = h .count ∙ ap (λ (ts : List Triple). gives (length ts)) listed-only
 
   pub entries-only : out′ ≡ written (entriesOfRuns (separatedRuns w)) out
   entries-only = h .entries ∙ ap (λ (ts : List Triple). written (entriesOfRuns ts) out) listed-only

@@ -15,9 +15,10 @@ use Rattle.theory.specs.scan.Scanned.{Scanned, Stops, scanned-one, scanned-whol
 use Rattle.theory.specs.scan.ScannedBorders.{Table, table-set, scanned-border, Walk, walk-on, walk-stops, walk-ends, ShortestBorder, shortest-border-length}
 use Rattle.scan.specs.declared.Scan.{Scan}
 use Rattle.scan.specs.State.{startState, stepState}
+use Rattle.checks.specs.Answers.{gives}
 use Rattle.scan.proofs.StateLaws.{stepped}
 use Rattle.extension.specs.declared.Extension.{Extension}
-use Rattle.extension.specs.Extension.{extensionOf, TestRoom, Scanning, Ready}
+use Rattle.extension.specs.Extension.{testSays, verdictOf, TestRoom, Scanning, Ready}
 
 -- ---- the scan
 
@@ -72,15 +73,15 @@ module _ (w t : List ℕ) (n b : ℕ) (r : Ready w t n b) where
 
 -- ---- the verdict
 
-pub verdict-whole : (w : List ℕ) (n b : ℕ) → Scanned w n b → length w ≤ n → Extension.InverseLyndon ≡ extensionOf w
-unfolding extensionOf
+pub verdict-whole : (w : List ℕ) (n b : ℕ) → Scanned w n b → length w ≤ n → testSays Extension.InverseLyndon ≡ gives (verdictOf w)
+unfolding verdictOf
 verdict-whole w n b s l =
     let k : InverseLyndon w = scanned-whole s (omega (arith, s .inside)) in
     rw (true-decides (inverse-lyndon-test w) k)
 
 pub verdict-fails : (w : List ℕ) (n b r : ℕ) → Scanned w n b → n < length w → getD w b 0 < getD w n 0 → ShortestBorder w n r
-    → Extension.Failing (n + 1) (n - r) r ≡ extensionOf w
-unfolding extensionOf
+    → testSays (Extension.Failing (n + 1) (n - r) r) ≡ gives (verdictOf w)
+unfolding verdictOf
 verdict-fails w n b r s l h y =
     let x : Failing w (suc n) = scanned-failing s l h in
     let z : suc n - r - 1 ≡ n - r = omega arith in

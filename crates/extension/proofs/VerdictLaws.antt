@@ -1,5 +1,4 @@
--- What an answer tells that is the verdict on v: failing (fails-told), inverse Lyndon (holds-told); and what the test's answer says
--- (verdict-checked).
+-- What an answer tells that says the verdict on v: failing (fails-told), inverse Lyndon (holds-told).
 use mathlib.Core.Path.{_≡_, refl}
 use mathlib.Core.Bool.{Bool, true, false}
 use mathlib.Core.Logic.{inl, inr}
@@ -16,11 +15,9 @@ use Rattle.theory.specs.lyndon.WordTests.{inverse-lyndon-test}
 use Rattle.theory.specs.icfl.BorderLength.{step-is}
 use Rattle.theory.specs.icfl.Failing.{failing-is}
 use Rattle.theory.specs.icfl.IcflFactors.{prefix-positive}
-use Rattle.checks.specs.Lines.{decided}
-use Rattle.checks.specs.declared.Checked.{Checked}
-use Rattle.checks.proofs.LineLaws.{said}
+use Rattle.checks.specs.Answers.{gives}
 use Rattle.extension.specs.declared.Extension.{Extension}
-use Rattle.extension.specs.Extension.{verdictAs, extensionOf, testChecked}
+use Rattle.extension.specs.Extension.{testSays, verdictAs, verdictOf}
 use Rattle.extension.proofs.Extension.{the-type}
 
 pub record Fails (v : List ℕ) (l p r : ℕ) : Type 0 where
@@ -32,11 +29,11 @@ pub record Fails (v : List ℕ) (l p r : ℕ) : Type 0 where
   pub inside : p + r < length v
   pub upto : l ≤ length v
 
-pub fails-told : (v : List ℕ) (l p r : ℕ) → 0 < length v → Extension.Failing l p r ≡ extensionOf v → Fails v l p r
-unfolding extensionOf
+pub fails-told : (v : List ℕ) (l p r : ℕ) → 0 < length v → gives (l ∷ p ∷ r ∷ []) ≡ gives (verdictOf v) → Fails v l p r
+unfolding verdictOf
 fails-told v l p r s e = go (isInverseLyndon v) refl e
   where
-    go : (t : Bool) → isInverseLyndon v ≡ t → Extension.Failing l p r ≡ verdictAs t (failingLength v) (prefixLength v) (borderLength v) → Fails v l p r
+    go : (t : Bool) → isInverseLyndon v ≡ t → gives (l ∷ p ∷ r ∷ []) ≡ gives (verdictAs t (failingLength v) (prefixLength v) (borderLength v)) → Fails v l p r
     go true d z = let b : _≡_ {A = ℕ} 0 1 = cc in absurd (omega arith)
     go false d z =
         let n : ¬ InverseLyndon v = decides-false (inverse-lyndon-test v) d in
@@ -54,30 +51,14 @@ fails-told v l p r s e = go (isInverseLyndon v) refl e
           upto = omega (arith, failing-is v s n .inside);
         }
 
-pub holds-told : (v : List ℕ) (a : Extension) → OneOf (0 ∷ 2 ∷ []) (tagOf the-type a) → a ≡ extensionOf v → InverseLyndon v
-unfolding extensionOf
+pub holds-told : (v : List ℕ) (a : Extension) → OneOf (0 ∷ 2 ∷ []) (tagOf the-type a) → testSays a ≡ gives (verdictOf v) → InverseLyndon v
+unfolding verdictOf
 holds-told v a h e = go (isInverseLyndon v) refl a h e
   where
     go : (t : Bool) → isInverseLyndon v ≡ t → (a : Extension) → OneOf (0 ∷ 2 ∷ []) (tagOf the-type a)
-        → a ≡ verdictAs t (failingLength v) (prefixLength v) (borderLength v) → InverseLyndon v
+        → testSays a ≡ gives (verdictAs t (failingLength v) (prefixLength v) (borderLength v)) → InverseLyndon v
     go true d a h z = decides-true (inverse-lyndon-test v) d
     go false d Extension.InverseLyndon h z = let b : _≡_ {A = ℕ} 0 1 = cc in absurd (omega arith)
     go false d (Extension.Refused m) h z = let b : _≡_ {A = ℕ} 0 1 = cc in absurd (omega arith)
     go false d (Extension.Failing l p r) (inl h) z = let b : _≡_ {A = ℕ} 1 0 = h in absurd (omega arith)
     go false d (Extension.Failing l p r) (inr h) z = let b : _≡_ {A = ℕ} 1 2 = h in absurd (omega arith)
-
--- a reading f of the verdict, and what it gives for a refusal
-pub verdict-read : {A : Type 0} (f : Extension → A) (g : Bool → A) (h : ℕ → A) (w : List ℕ)
-    → ((t : Bool) → f (verdictAs t (failingLength w) (prefixLength w) (borderLength w)) ≡ g t) → ((number : ℕ) → f (Extension.Refused number) ≡ h number)
-    → (k : Checked) → f (decided k (extensionOf w) Extension.Refused) ≡ decided k (g (isInverseLyndon w)) h
-unfolding extensionOf
-verdict-read f g h w x y Checked.Passed = x (isInverseLyndon w)
-verdict-read f g h w x y (Checked.Refused number) = y number
-
-pub verdict-checked : (w : List ℕ) (k : Checked) → testChecked (decided k (extensionOf w) Extension.Refused) ≡ k
-unfolding extensionOf
-verdict-checked w k = said testChecked (extensionOf w) (λ (i : ℕ). Extension.Refused i) (go (isInverseLyndon w)) (λ n. refl) k
-  where
-    go : (t : Bool) → testChecked (verdictAs t (failingLength w) (prefixLength w) (borderLength w)) ≡ Checked.Passed
-    go true = refl
-    go false = refl

@@ -10,25 +10,25 @@ use Rattle.theory.specs.scan.Scanned.{Scanned}
 use Rattle.theory.specs.scan.ScannedBorders.{Table}
 use Rattle.buffers.specs.Buffers.{cleared}
 use Rattle.checks.specs.Lines.{Line, _unless_then_, workLine, markLine}
-use Rattle.checks.specs.declared.Checked.{Checked}
+use Rattle.checks.specs.Answers.{Says, gives, refuses}
 use Rattle.scan.specs.State.{Rests}
 use Rattle.scan.specs.declared.Scan.{Scan}
 use Rattle.extension.specs.declared.Extension.{Extension}
 use Rattle.extension.specs.declared.Extension.the-variants.{InverseLyndon, Failing, Refused}
 
--- 'The test answers "falling", or "failing" with L, |p| and |r|.'
-abbrev pub verdictAs : Bool → ℕ → ℕ → ℕ → Extension
-verdictAs true failing prefix border = InverseLyndon
-verdictAs false failing prefix border = Failing failing prefix border
+-- 'The test answers "falling", or "failing" with L, |p| and |r|.': what each case says, with no values for "falling"
+abbrev pub testSays : Extension → Says (List ℕ)
+testSays InverseLyndon = gives []
+testSays (Failing failing prefix border) = gives (failing ∷ prefix ∷ border ∷ [])
+testSays (Refused number) = refuses number
 
-unfoldable pub extensionOf : List ℕ → Extension
-extensionOf w = verdictAs (isInverseLyndon w) (failingLength w) (prefixLength w) (borderLength w)
+abbrev pub verdictAs : Bool → ℕ → ℕ → ℕ → List ℕ
+verdictAs true failing prefix border = []
+verdictAs false failing prefix border = failing ∷ prefix ∷ border ∷ []
 
--- what an answer says: a result, or paper 01's number of the refusal
-abbrev pub testChecked : Extension → Checked
-testChecked InverseLyndon = Checked.Passed
-testChecked (Failing failing prefix border) = Checked.Passed
-testChecked (Refused number) = Checked.Refused number
+-- the values of the result
+unfoldable pub verdictOf : List ℕ → List ℕ
+verdictOf w = verdictAs (isInverseLyndon w) (failingLength w) (prefixLength w) (borderLength w)
 
 -- the test's own lines, tried past those at its door: 3, and "9, a test of a record that holds a mark, after 3"
 abbrev pub extensionLines : List ℕ → ℕ → List Line
@@ -37,7 +37,7 @@ extensionLines w entries = workLine entries (length w) ∷ markLine w ∷ []
 -- the call's promise, by the lines at its door: its answer; and "after an accepted .. test .. the entries counted in line 3 are zero and later ones
 -- unchanged", untouched by a refusal
 pub record ExtensionFound (door : List Line) (w work : List ℕ) (r : Extension) (work′ : List ℕ) : Type 0 where
-  pub answer : r ≡ extensionOf w unless door ++ extensionLines w (length work) then Refused
+  pub answer : testSays r ≡ gives (verdictOf w) unless door ++ extensionLines w (length work) then refuses
   pub buffer : work′ ≡ cleared (length w) work unless door ++ extensionLines w (length work) then (λ number. work)
 
 -- ---- inner functions
@@ -62,5 +62,5 @@ pub record Ready (w table : List ℕ) (n b : ℕ) : Type 0 where
   pub borders : Table w table (n - 1)
 
 pub record Verdict (w work : List ℕ) (r : Extension) (work′ : List ℕ) : Type 0 where
-  pub answer : r ≡ extensionOf w
+  pub answer : testSays r ≡ gives (verdictOf w)
   pub kept : drop (length w) work′ ≡ drop (length w) work

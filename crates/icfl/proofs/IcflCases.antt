@@ -18,7 +18,7 @@ use Rattle.buffers.specs.Buffers.{cleared, written}
 use Rattle.buffers.proofs.BufferLaws.{cleared-kept}
 use Rattle.buffers.proofs.PartLaws.{part, part-is}
 use Rattle.checks.specs.Lines.{Line, tried, _unless_then_, workLine, resultLine, Accepted}
-use Rattle.checks.specs.Answers.{numberOf, Filled}
+use Rattle.checks.specs.Answers.{numberOf, Says, gives, refuses, Filled}
 use Rattle.checks.specs.declared.Checked.{Checked}
 use Rattle.checks.specs.declared.Checked.the-variants.{Passed}
 use Rattle.checks.specs.declared.Counted.{Counted}
@@ -133,13 +133,13 @@ module _ (door : List Line) (w work buffer : List ℕ) where
   abbrev own : List Line
   own = icflLines w (length work) (length buffer)
 
-  abbrev count : Counted
-  count = Counted.Count (length (separatedIcflEnds w))
+  abbrev count : Says ℕ
+  count = gives (length (separatedIcflEnds w))
 
   pub icfl-at-door : NoFour door → {k : Checked} {m : ℕ} → k ≡ tried door → IsRefused k → m ≡ numberOf k
       → IcflDone door w work buffer (Counted.Refused m) work buffer
   icfl-at-door no-four e h z = record {
-    answer = refused-at-door door own count (λ (i : ℕ). Counted.Refused i) e h z;
+    answer = refused-at-door door own count (λ (i : ℕ). refuses i) e h z;
     result = refused-at-door door own (written (separatedPairs w) buffer) (λ (i : ℕ). buffer) e h z;
     worked = at-door-worked door own (3 * length w) work no-four e h z;
   }
@@ -147,7 +147,7 @@ module _ (door : List Line) (w work buffer : List ℕ) where
   pub icfl-past-door : {r : Counted} {work′ buffer′ : List ℕ} → tried door ≡ Passed → IcflDone [] w work buffer r work′ buffer′
       → IcflDone door w work buffer r work′ buffer′
   icfl-past-door p d = record {
-    answer = d .answer ∙ past-door door own count (λ (i : ℕ). Counted.Refused i) p;
+    answer = d .answer ∙ past-door door own count (λ (i : ℕ). refuses i) p;
     result = d .result ∙ past-door door own (written (separatedPairs w) buffer) (λ (i : ℕ). buffer) p;
     worked = d .worked ∙ past-door door own (cleared (3 * length w) work) (workAfter (3 * length w) work) p;
   }

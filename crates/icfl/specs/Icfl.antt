@@ -9,6 +9,7 @@ use Rattle.words.specs.Separated.{separatedIcflEnds}
 use Rattle.words.specs.Pairs.{separatedPairs}
 use Rattle.buffers.specs.Buffers.{cleared, written}
 use Rattle.checks.specs.Lines.{Line, _unless_then_, workLine, resultLine}
+use Rattle.checks.specs.Answers.{Says, gives, refuses, countSays}
 use Rattle.checks.specs.declared.Counted.{Counted}
 
 -- the piece cut's own lines, tried past those at its door: 3 before its work, then 4, which "counts both numbers" of an entry (request 108)
@@ -22,8 +23,8 @@ workAfter n work number = elim (eqb number 4) [ true ↦ cleared n work | false 
 -- ---- the call behind the lines of a door: its answer, "the number of pieces"; the result buffer, with a pair for each of them; and the work buffer, cleared
 -- "after an accepted cut"
 
-abbrev pub icflAnswer : (door : List Line) (w work pairs : List ℕ) → Counted
-icflAnswer door w work pairs = Counted.Count (length (separatedIcflEnds w)) unless door ++ icflLines w (length work) (length pairs) then Counted.Refused
+abbrev pub icflAnswer : (door : List Line) (w work pairs : List ℕ) → Says ℕ
+icflAnswer door w work pairs = gives (length (separatedIcflEnds w)) unless door ++ icflLines w (length work) (length pairs) then refuses
 
 abbrev pub icflResult : (door : List Line) (w work pairs : List ℕ) → List ℕ
 icflResult door w work pairs = written (separatedPairs w) pairs unless door ++ icflLines w (length work) (length pairs) then (λ number. pairs)
@@ -33,6 +34,6 @@ icflWork door w work pairs = cleared (3 * length w) work unless door ++ icflLine
 
 -- the call's promise
 pub record IcflDone (door : List Line) (w work pairs : List ℕ) (r : Counted) (work′ pairs′ : List ℕ) : Type 0 where
-  pub answer : r ≡ icflAnswer door w work pairs
+  pub answer : countSays r ≡ icflAnswer door w work pairs
   pub result : pairs′ ≡ icflResult door w work pairs
   pub worked : work′ ≡ icflWork door w work pairs

@@ -9,7 +9,7 @@ use Rattle.words.specs.Separated.{separatedIcflEnds, separatedBreaks}
 use Rattle.words.specs.Pairs.{separatedPairs}
 use Rattle.buffers.specs.Buffers.{cleared, written}
 use Rattle.checks.specs.Lines.{Line, tried, resultLine}
-use Rattle.checks.specs.Answers.{numberOf}
+use Rattle.checks.specs.Answers.{numberOf, Says, gives, refuses}
 use Rattle.checks.specs.declared.Checked.{Checked}
 use Rattle.checks.specs.declared.Checked.the-variants.{Passed}
 use Rattle.checks.proofs.LineLaws.{IsRefused, refused, refused-first, passed-first, past-door, refused-at-door, unmet}
@@ -32,15 +32,15 @@ module _ (w work pairs breaks : List ℕ) where
   abbrev lines : List Line
   lines = breaksLines w (length work) (length pairs) (length breaks)
 
-  abbrev result : CountedBreaks
-  result = CountedBreaks.Counts (length (separatedIcflEnds w)) (length (separatedBreaks w))
+  abbrev result : Says (ℕ × ℕ)
+  result = gives (length (separatedIcflEnds w), length (separatedBreaks w))
 
   pub breaks-work-refused : {k : Checked} {m : ℕ} → k ≡ tried (workLines w (length work)) → IsRefused k → m ≡ numberOf k
       → BreaksDone [] w work pairs breaks (CountedBreaks.Refused m) work pairs breaks
   breaks-work-refused {k} e h z =
       let first : k ≡ tried lines = refused-first (workLines w (length work)) room e h in
       record {
-        answer = refused lines result (λ (i : ℕ). CountedBreaks.Refused i) first h z;
+        answer = refused lines result (λ (i : ℕ). refuses i) first h z;
         pairs-are = refused lines (written (separatedPairs w) pairs) (λ (i : ℕ). pairs) first h z;
         breaks-are = refused lines (written (entriesOfBreaks (separatedBreaks w)) breaks) (λ (i : ℕ). breaks) first h z;
         worked = refused-worked w work room refl e h z;
@@ -55,7 +55,7 @@ module _ (w work pairs breaks : List ℕ) where
     pub breaks-refused : {k : Checked} {m : ℕ} → k ≡ tried (roomLines (length pairs) (length breaks) (length w - found .first) (found .breaks))
         → IsRefused k → m ≡ numberOf k → BreaksDone [] w work pairs breaks (CountedBreaks.Refused m) work₂ pairs breaks
     breaks-refused e h z = record {
-      answer = refused lines result (λ (i : ℕ). CountedBreaks.Refused i) (fourth e) h z;
+      answer = refused lines result (λ (i : ℕ). refuses i) (fourth e) h z;
       pairs-are = refused lines (written (separatedPairs w) pairs) (λ (i : ℕ). pairs) (fourth e) h z;
       breaks-are = refused lines (written (entriesOfBreaks (separatedBreaks w)) breaks) (λ (i : ℕ). breaks) (fourth e) h z;
       worked = cut-worked w work room refl p x y;
@@ -79,13 +79,13 @@ module _ (door : List Line) (w work pairs breaks : List ℕ) where
   abbrev own : List Line
   own = breaksLines w (length work) (length pairs) (length breaks)
 
-  abbrev counts : CountedBreaks
-  counts = CountedBreaks.Counts (length (separatedIcflEnds w)) (length (separatedBreaks w))
+  abbrev counts : Says (ℕ × ℕ)
+  counts = gives (length (separatedIcflEnds w), length (separatedBreaks w))
 
   pub breaks-at-door : NoFour door → {k : Checked} {m : ℕ} → k ≡ tried door → IsRefused k → m ≡ numberOf k
       → BreaksDone door w work pairs breaks (CountedBreaks.Refused m) work pairs breaks
   breaks-at-door no-four e h z = record {
-    answer = refused-at-door door own counts (λ (i : ℕ). CountedBreaks.Refused i) e h z;
+    answer = refused-at-door door own counts (λ (i : ℕ). refuses i) e h z;
     pairs-are = refused-at-door door own (written (separatedPairs w) pairs) (λ (i : ℕ). pairs) e h z;
     breaks-are = refused-at-door door own (written (entriesOfBreaks (separatedBreaks w)) breaks) (λ (i : ℕ). breaks) e h z;
     worked = at-door-worked door own (3 * length w) work no-four e h z;
@@ -94,7 +94,7 @@ module _ (door : List Line) (w work pairs breaks : List ℕ) where
   pub breaks-past-door : {r : CountedBreaks} {work′ pairs′ breaks′ : List ℕ} → tried door ≡ Passed → BreaksDone [] w work pairs breaks r work′ pairs′ breaks′
       → BreaksDone door w work pairs breaks r work′ pairs′ breaks′
   breaks-past-door p f = record {
-    answer = f .answer ∙ past-door door own counts (λ (i : ℕ). CountedBreaks.Refused i) p;
+    answer = f .answer ∙ past-door door own counts (λ (i : ℕ). refuses i) p;
     pairs-are = f .pairs-are ∙ past-door door own (written (separatedPairs w) pairs) (λ (i : ℕ). pairs) p;
     breaks-are = f .breaks-are ∙ past-door door own (written (entriesOfBreaks (separatedBreaks w)) breaks) (λ (i : ℕ). breaks) p;
     worked = f .worked ∙ past-door door own (cleared (3 * length w) work) (workAfter (3 * length w) work) p;

@@ -7,7 +7,7 @@ use Rattle.words.specs.Separated.{separatedIcflEnds, separatedBreaks}
 use Rattle.words.specs.Pairs.{separatedPairs}
 use Rattle.buffers.specs.Buffers.{cleared, written}
 use Rattle.checks.specs.Lines.{Line, _unless_then_, resultLine}
-use Rattle.checks.specs.declared.Checked.{Checked}
+use Rattle.checks.specs.Answers.{Says, gives, refuses}
 use Rattle.fates.specs.Entries.{entriesOfBreaks}
 use Rattle.icfl.specs.Icfl.{icflLines, workAfter}
 use Rattle.icfl_breaks.specs.declared.CountedBreaks.{CountedBreaks}
@@ -17,16 +17,16 @@ use Rattle.icfl_breaks.specs.declared.CountedBreaks.the-variants.{Counts
 abbrev pub breaksLines : List ℕ → (work pairs breaks : ℕ) → List Line
 breaksLines w work pairs breaks = icflLines w work pairs ++ resultLine breaks (5 * length (separatedBreaks w)) ∷ []
 
--- what an answer says: a result, or paper 01's number of the refusal
-abbrev pub breaksChecked : CountedBreaks → Checked
-breaksChecked (Counts factors breaks) = Checked.Passed
-breaksChecked (Refused number) = Checked.Refused number
+-- what each case says: "both counts"
+abbrev pub breaksSays : CountedBreaks → Says (ℕ × ℕ)
+breaksSays (Counts factors breaks) = gives (factors, breaks)
+breaksSays (Refused number) = refuses number
 
 -- the call's promise behind the lines of a door: "A further call, which checks and leaves the work buffer as the piece cut does, gives beside the ends every
 -- break the cut considered, and both counts"; "Result buffers are untouched by a refusal."
 pub record BreaksDone (door : List Line) (w work pairs breaks : List ℕ) (r : CountedBreaks) (work′ pairs′ breaks′ : List ℕ) : Type 0 where
-  pub answer : r ≡ Counts (length (separatedIcflEnds w)) (length (separatedBreaks w))
-      unless door ++ breaksLines w (length work) (length pairs) (length breaks) then Refused
+  pub answer : breaksSays r ≡ gives (length (separatedIcflEnds w), length (separatedBreaks w))
+      unless door ++ breaksLines w (length work) (length pairs) (length breaks) then refuses
   pub pairs-are : pairs′ ≡ written (separatedPairs w) pairs unless door ++ breaksLines w (length work) (length pairs) (length breaks) then (λ number. pairs)
   pub breaks-are : breaks′ ≡ written (entriesOfBreaks (separatedBreaks w)) breaks
       unless door ++ breaksLines w (length work) (length pairs) (length breaks) then (λ number. breaks)

@@ -7,6 +7,10 @@ use compare::Comparison;
 use extension::Extension;
 use icfl_breaks::CountedBreaks;
 ghost use mathlib.Core.Path.{_≡_};
+ghost use Rattle.checks.specs.Answers.{countSays};
+ghost use Rattle.extension.specs.Extension.{testSays};
+ghost use Rattle.icfl_breaks.specs.IcflBreaks.{breaksSays};
+ghost use Rattle.compare.specs.Compare.{comparisonSays};
 ghost use Rattle.numbers.specs.Numbers.{countNumbers, testNumbers, breaksNumbers, comparisonNumbers, batchNumbers};
 ghost use Rattle.numbers.specs.Numbers.{SmallCount, SmallTest, SmallBreaks, SmallComparison, SmallBatch};
 
@@ -26,7 +30,7 @@ pub struct Replies {
 
 // A count or a refusal.
 fn numbers_of(answer: Counted) -> Reply
-    requires { ⌜ SmallCount answer ⌝ }
+    requires { ⌜ SmallCount (countSays answer) ⌝ }
     ensures { λ r. ⌜ (r .refusal, r .count) ≡ countNumbers answer ⌝ }
 {
     match answer {
@@ -43,7 +47,7 @@ fn numbers_of(answer: Counted) -> Reply
 
 /// Leaves the count, and gives the refusal's number.
 pub fn tell_count(answer: Counted, count: &mut u16) -> u8
-    requires { ⌜ SmallCount answer ⌝ }
+    requires { ⌜ SmallCount (countSays answer) ⌝ }
     ensures { λ r. ⌜ (r, now (count .exit)) ≡ countNumbers answer ⌝ }
 {
     let numbers = numbers_of(answer);
@@ -53,7 +57,7 @@ pub fn tell_count(answer: Counted, count: &mut u16) -> u8
 
 /// Leaves L, |p| and |r|, all 0 for an inverse Lyndon word, and gives the refusal's number.
 pub fn tell_test(answer: Extension, failing: &mut u16, prefix: &mut u16, border: &mut u16) -> u8
-    requires { ⌜ SmallTest answer ⌝ }
+    requires { ⌜ SmallTest (testSays answer) ⌝ }
     ensures { λ r. ⌜ (r, now (failing .exit), now (prefix .exit), now (border .exit)) ≡ testNumbers answer ⌝ }
 {
     *failing = 0;
@@ -77,7 +81,7 @@ pub fn tell_test(answer: Extension, failing: &mut u16, prefix: &mut u16, border:
 
 /// Leaves the number of factors and that of breaks, and gives the refusal's number.
 pub fn tell_breaks(answer: CountedBreaks, count: &mut u16, break_count: &mut u16) -> u8
-    requires { ⌜ SmallBreaks answer ⌝ }
+    requires { ⌜ SmallBreaks (breaksSays answer) ⌝ }
     ensures { λ r. ⌜ (r, now (count .exit), now («break_count» .exit)) ≡ breaksNumbers answer ⌝ }
 {
     match answer {
@@ -96,7 +100,7 @@ pub fn tell_breaks(answer: CountedBreaks, count: &mut u16, break_count: &mut u16
 
 /// Leaves the sign and how far the two agree, and gives the refusal's number.
 pub fn tell_comparison(answer: Comparison, sign: &mut i8, common: &mut u16) -> u8
-    requires { ⌜ SmallComparison answer ⌝ }
+    requires { ⌜ SmallComparison (comparisonSays answer) ⌝ }
     ensures { λ r. ⌜ (r, now (sign .exit), now (common .exit)) ≡ comparisonNumbers answer ⌝ }
 {
     match answer {

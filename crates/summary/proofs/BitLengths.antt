@@ -1,5 +1,5 @@
--- The definition's bitLength is the number of binary digits (bit-length-bounds), 1 to 13 for a length of 1 to 4096 (bit-length-most),
--- and what is left of 16 digits without the leading zeros (zeros-and-bits).
+-- The definition's bitLength is the number of binary digits (bit-length-bounds), 1 to 13 for a length of 1 to 4096 (bit-length-most; bit-length-digits), and
+-- what is left of 16 digits without the leading zeros (zeros-and-bits).
 use mathlib.Core.Path.{_≡_, refl, ap, _∙_}
 use Prim.Native.Nat.{ℕ, zero, suc, _+_, _-_, _/_, _^_, _≤_, _<_}
 use native.Mathlib.Nat.{add-suc, add-zero, pow-suc}
@@ -7,6 +7,7 @@ use native.Mathlib.Omega.{arith}
 use lib.Count.{leadingZeros, leading-top}
 use Rattle.words.specs.Words.{mostLetters}
 use Rattle.summary.specs.Summary.{bitLengthWithin, bitLength}
+use Rattle.summary.specs.SummaryStatements.{Digits}
 
 zeros-and-bits-within : (k n : ℕ) → leadingZeros k n + bitLengthWithin k n ≡ k
 unfolding leadingZeros bitLengthWithin
@@ -45,3 +46,8 @@ pub bit-length-some : (n : ℕ) → 0 < n → 0 < bitLength n
 unfolding bitLength
 bit-length-some zero h = absurd (omega arith)
 bit-length-some (suc n) h = omega arith
+
+pub bit-length-digits : (n : ℕ) → 0 < n → n ≤ mostLetters → Digits n (bitLength n)
+bit-length-digits n l h =
+    let b = bit-length-bounds n l (omega arith) in
+    record { some = bit-length-some n l; most = bit-length-most n h; from = b .0; below = b .1 }

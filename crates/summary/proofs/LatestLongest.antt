@@ -1,6 +1,5 @@
--- What the summary's definitions say of the longest part, to hold them against: a part of the length that they give begins at the place that they give,
--- no part is longer, and no later part has that length (latest-longest; summary-latest, of every result of the summary). No other two numbers are so
--- (latest-only). The parts are those of demand 3: they lie between neighbouring ends, the first from 0.
+-- THEOREMS latest-longest, summary-latest: the longest part and its place by the summary's definitions, and so of every result of the summary, are what
+-- request 101 says (LatestLongest). No other two numbers are so (latest-only).
 use mathlib.Core.Path.{_≡_, refl}
 use mathlib.Core.Logic.{⊎-elim}
 use mathlib.Core.Bool.{true}
@@ -12,7 +11,7 @@ use lib.ListN.{length}
 use lib.Dec.{ltb}
 use Rattle.theory.specs.orders.Decisions.{neither-less}
 use Rattle.words.specs.Pairs.{endsOf}
-use Rattle.theory.specs.Statements.{Adjacent, here, there, Part}
+use Rattle.theory.specs.Statements.{Adjacent, here, there}
 use Rattle.theory.specs.places.Ends.{adjacent-cases, adjacent-one}
 use Rattle.theory.specs.places.EndsRise.{Rises, done, more}
 use Rattle.theory.specs.places.Parts.{rises-adjacent}
@@ -24,16 +23,9 @@ use Rattle.checks.specs.Answers.{numberOf}
 use Rattle.checks.proofs.LineLaws.{not-both, everyNumber, every-joined, zero-passes}
 use Rattle.summary.specs.declared.Summary.{Summary}
 use Rattle.summary.specs.Summary.{summaryLines, lengthsFrom, greatest, startOf, countOf, summaryOf, emptySummary, Summarized}
+use Rattle.summary.specs.SummaryStatements.{LatestLongest}
 use Rattle.summary.proofs.EndsAdmitted.{EndsAccepted, all-admitted}
 use Rattle.summary.proofs.SummaryLaws.{start-here, start-later, count-here, count-other, count-more, count-greatest}
-
-pub record LatestLongest (es : List ℕ) (longest from : ℕ) : Type 0 where
-  -- a part of that length begins at that place
-  pub begins : Part es from (from + longest)
-  -- no part is longer
-  pub most : (i j : ℕ) → Part es i j → j - i ≤ longest
-  -- no later part has that length
-  pub latest : (i j : ℕ) → Part es i j → from < i → ¬ (j - i ≡ longest)
 
 pub latest-only : {es : List ℕ} {m n f g : ℕ} → LatestLongest es m f → LatestLongest es n g → (m ≡ n) × (f ≡ g)
 latest-only {es} {m} {n} {f} {g} x y =

@@ -1,2 +1,3 @@
 pub mod Summary
+pub mod SummaryStatements
 pub mod Examples

@@ -31,7 +31,7 @@ countOf k [] = 0
 countOf k (n ∷ ns) = elim (eqb n k) [ true ↦ suc (countOf k ns) | false ↦ countOf k ns ]
 
 -- where the latest part of length n begins: it has that length, and no part after it has; 0 if none has it; the parts as in lengthsFrom. What that
--- says of the longest part is a law (proofs/LatestLongest, summary-latest).
+-- says of the longest part: SummaryStatements.
 unfoldable pub startOf : ℕ → ℕ → List ℕ → ℕ
 unfolding lengthsFrom countOf
 startOf n a [] = 0

@@ -5,6 +5,7 @@
 --     CflInOf                     "the only division .."      Theorem 2.1          anti-Lyndon words, none before the next one in ≺
 --     BoundedExtension            L, |p|, |r|                 Definition 4.2       the sentences that fix them, a field each
 --     BreaksOf                    request 102                                      what is said of the breaks, a field each
+--     SignOf                      −1, 0, +1                                        what the comparison's sign says, a case each
 --     SharedMost                  request 104                                      what is said of that number, by places
 --     DominatedBy                                                                  every nonempty suffix of one is ≪ the other
 --     BelowByBorders              request 109                                      the same said by borders

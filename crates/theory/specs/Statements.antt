@@ -1,12 +1,13 @@
--- DEFINITIONS. What is said of a list of words, of one step of the piece cut, of its breaks, of two starts that agree, and demand 3 of a word. The product of a
--- list of words is the library's flatten.
+-- DEFINITIONS. What is said of a list of words, of one step of the piece cut, of its breaks, of two starts (which comes first, how far they agree), and demand 3
+-- of a word. The product of a list of words is the library's flatten.
 use mathlib.Core.Path.{_≡_}
 use mathlib.Core.Logic.{_⊎_}
 use mathlib.Core.List.{List, [], _∷_, _++_, flatten, List·Memᴰ}
 use Prim.Native.Nat.{ℕ, suc, _+_, _-_, _≤_, _<_, max}
 use lib.ListN.{length, take, drop, getD}
 use lib.Seq.{slice}
-use Rattle.words.specs.Words.{_≪_, _⊑_, _<ₗ_, _≺_, InverseLyndon, AntiLyndon, sign}
+use lib.IntN.{ℤ, pos, negsuc}
+use Rattle.words.specs.Words.{_≪_, _⊑_, _<ₗ_, _≺_, InverseLyndon, AntiLyndon, remainder, sign}
 use Rattle.words.specs.Factorizations.{icfl, icflEnds, cflInEnds}
 use Rattle.words.specs.declared.Fate.{Fate}
 use Rattle.words.specs.declared.Fate.the-variants.{Kept, Joined}
@@ -99,6 +100,14 @@ pub record BreaksOf (w : List ℕ) (bs : List Break) : Type 0 where
       → (a ≡ getD w (k .begun + k .border) 0) × (b ≡ getD w (k .place + k .border) 0) × (a < b)
   -- "or joined with the number |r| less the joined piece's length"
   pub joined : (b : Break) (s : ℕ) → List·Memᴰ b bs → b .fate ≡ Joined s → JoinedTo w (b .place) (b .border) s
+
+-- ---- two starts of a stretch
+
+-- "It compares the two remainders of the stretch in the inverse order: −1 if the first start's comes first, 0 if the starts are equal, +1 otherwise."
+pub data SignOf (w : List ℕ) (first end start other : ℕ) : ℤ → Type 0 where
+  before : ¬ (start ≡ other) → remainder w first end start ≺ remainder w first end other → SignOf w first end start other (negsuc 0)
+  equal : start ≡ other → SignOf w first end start other (pos 0)
+  after : ¬ (start ≡ other) → ¬ (remainder w first end start ≺ remainder w first end other) → SignOf w first end start other (pos 1)
 
 -- ---- how far two starts agree before end (request 104)
 

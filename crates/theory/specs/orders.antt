@@ -3,7 +3,7 @@
 --   PrefixLaws, MismatchLaws, LexLaws, InverseLaws      ⊑, ≪, <ₗ and ≺, the last two as strict total orders
 --   OrderTests      the tests of two words decide
 --   CommonLength    how far two words agree, and how they compare there
---   SignLaws        what the sign over a range says (sign-is)
+--   SignLaws        what the sign over a range says (sign-is, sign-only)
 --   WordSigns       it is the sign of two parts of the word (sign-parts)
 --   CommonWithin    how far two starts of a range agree (common-within-is)
 pub mod Decisions

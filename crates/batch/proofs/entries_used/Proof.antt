@@ -1,6 +1,8 @@
 use borrow.Author.Needs.{needs}
 use mathlib.Core.Path.{ap, sym, _∙_}
 use native.Mathlib.Omega.{arith}
+use Rattle.checks.specs.Answers.{countSays}
+use Rattle.checks.specs.declared.Counted.{Counted}
 use Rattle.batch.specs.Batch.{entriesUsed}
 use Rattle.batch.proofs.entries_used.Statement.{statement}
 use Rattle.batch.proofs.entries_used.Tie as tie
@@ -15,7 +17,7 @@ enum-told : tie.Need-enum-told
 enum-told c = search needs
 
 returns : tie.Need-returns
-returns c = c .entries .ensures ∙ sym (ap entriesUsed (c .before .before .answer .given .1))
+returns c = c .entries .ensures ∙ sym (ap (λ (a : Counted). entriesUsed (countSays a)) (c .before .before .answer .given .1))
 
 returns-2 : tie.Need-returns-2
 returns-2 c = search needs

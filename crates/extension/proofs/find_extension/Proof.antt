@@ -2,9 +2,9 @@
 use borrow.Author.Needs.{needs}
 use mathlib.Core.Path.{_∙_}
 use Prim.Native.Nat.{ℕ}
+use Rattle.checks.specs.Answers.{refuses}
 use Rattle.checks.proofs.LineLaws.{passed, past-door, refused-at-door}
 use Rattle.checks.proofs.RecordLaws.{let-in}
-use Rattle.extension.specs.declared.Extension.{Extension}
 use Rattle.extension.proofs.find_extension.Statement.{statement}
 use Rattle.extension.proofs.find_extension.Tie as tie
 
@@ -25,7 +25,7 @@ returns c =
     let says = c .before .before .before .check-record .ensures .says in
     let keys = c .before .before .match .keys2 in
     record {
-      answer = refused-at-door _ _ _ (λ (n : ℕ). Extension.Refused n) says keys (c .number .ensures);
+      answer = refused-at-door _ _ _ (λ (n : ℕ). refuses n) says keys (c .number .ensures);
       buffer = refused-at-door _ _ _ _ says keys (c .number .ensures);
     }
 
@@ -40,7 +40,7 @@ returns-2 c =
     let at-room = c .before .before in
     let p = passed _ (at-room .before .before .before .before .check-record .ensures .says) (at-room .before .before .before .match .keys1) in
     record {
-      answer = at-room .test .ensures .answer ∙ past-door _ _ _ (λ (n : ℕ). Extension.Refused n) p;
+      answer = at-room .test .ensures .answer ∙ past-door _ _ _ (λ (n : ℕ). refuses n) p;
       buffer = at-room .test .ensures .buffer ∙ past-door _ _ _ _ p;
     }
 

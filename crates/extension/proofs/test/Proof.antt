@@ -9,6 +9,7 @@ use lib.ListN.{length}
 use Rattle.buffers.specs.Buffers.{cleared}
 use Rattle.buffers.proofs.BufferLaws.{cleared-kept}
 use Rattle.checks.specs.Lines.{tried, Accepted}
+use Rattle.checks.specs.Answers.{refuses}
 use Rattle.checks.specs.declared.Checked.the-variants.{Passed}
 use Rattle.checks.proofs.LineLaws.{passed, refused, unmet}
 use Rattle.extension.specs.declared.Extension.{Extension}
@@ -50,7 +51,7 @@ returns : tie.Need-returns
 returns c =
     let says = c .before .before .before .admit .ensures in
     let keys = c .before .before .match .keys2 in
-    record { answer = refused _ _ _ says keys (c .number .ensures); buffer = refused _ _ _ says keys (c .number .ensures) }
+    record { answer = refused _ _ (λ (n : ℕ). refuses n) says keys (c .number .ensures); buffer = refused _ _ _ says keys (c .number .ensures) }
 
 extension-of-requires : tie.Need-extension-of-requires
 extension-of-requires c κs = room-at (c .before)

@@ -1,18 +1,14 @@
--- What the sign says (sign-is), and when two ranges give the same sign (sign-same-order).
-use mathlib.Core.Path.{_≡_, ap}
+-- What the sign says (sign-is), that no other number is so (sign-only), and when two ranges give the same sign (sign-same-order).
+use mathlib.Core.Path.{_≡_, refl, ap}
 use mathlib.Core.List.{List}
 use mathlib.Core.Bool.{Bool, true, false}
 use Prim.Native.Nat.{ℕ}
 use lib.Dec.{eqb}
 use lib.IntN.{ℤ, pos, negsuc}
 use Rattle.words.specs.Words.{_≺_, remainder, sign}
+use Rattle.theory.specs.Statements.{SignOf}
 use Rattle.theory.specs.orders.Decisions.{Decides, holds, fails, eqb-test, decides-map, decides-unique}
 use Rattle.theory.specs.orders.OrderTests.{inverse-before-test}
-
-pub data SignOf (w : List ℕ) (first end start other : ℕ) : ℤ → Type 0 where
-  before : ¬ (start ≡ other) → remainder w first end start ≺ remainder w first end other → SignOf w first end start other (negsuc 0)
-  equal : start ≡ other → SignOf w first end start other (pos 0)
-  after : ¬ (start ≡ other) → ¬ (remainder w first end start ≺ remainder w first end other) → SignOf w first end start other (pos 1)
 
 pub sign-is : (w : List ℕ) (first end start other : ℕ) → SignOf w first end start other (sign w first end start other)
 unfolding sign
@@ -20,9 +16,20 @@ sign-is w first end start other = go (eqb-test start other) (inverse-before-test
   where
     go : {s t : Bool} → Decides (start ≡ other) s → Decides (remainder w first end start ≺ remainder w first end other) t
         → SignOf w first end start other (elim s [ true ↦ pos 0 | false ↦ elim t [ true ↦ negsuc 0 | false ↦ pos 1 ] ])
-    go (holds e) d = equal e
-    go (fails n) (holds h) = before n h
-    go (fails n) (fails h) = after n h
+    go (holds e) d = SignOf.equal e
+    go (fails n) (holds h) = SignOf.before n h
+    go (fails n) (fails h) = SignOf.after n h
+
+pub sign-only : {w : List ℕ} {first end start other : ℕ} {s t : ℤ} → SignOf w first end start other s → SignOf w first end start other t → s ≡ t
+sign-only (SignOf.before n k) (SignOf.before m l) = refl
+sign-only (SignOf.before n k) (SignOf.equal e) = absurd (n e)
+sign-only (SignOf.before n k) (SignOf.after m l) = absurd (l k)
+sign-only (SignOf.equal e) (SignOf.before n k) = absurd (n e)
+sign-only (SignOf.equal e) (SignOf.equal d) = refl
+sign-only (SignOf.equal e) (SignOf.after n k) = absurd (n e)
+sign-only (SignOf.after n k) (SignOf.before m l) = absurd (k l)
+sign-only (SignOf.after n k) (SignOf.equal e) = absurd (n e)
+sign-only (SignOf.after n k) (SignOf.after m l) = refl
 
 -- two ranges in which the remainders come in the same order
 pub sign-same-order : (w : List ℕ) (first end first′ end′ start other : ℕ)

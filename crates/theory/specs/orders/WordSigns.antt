@@ -8,8 +8,9 @@ use lib.Seq.{length-take-le}
 use lib.IntN.{ℤ, pos, negsuc}
 use Rattle.buffers.proofs.PartLaws.{drop-to, part, part-is}
 use Rattle.words.specs.Words.{_≺_, remainder, sign}
+use Rattle.theory.specs.Statements.{SignOf}
 use Rattle.theory.specs.orders.InverseLaws.{≺-≼, ≺-irrefl, ≺-not-≼}
-use Rattle.theory.specs.orders.SignLaws.{SignOf, sign-is}
+use Rattle.theory.specs.orders.SignLaws.{sign-is}
 
 pub data SignOfWords (x y : List ℕ) : ℤ → Type 0 where
   before : x ≺ y → SignOfWords x y (negsuc 0)

@@ -9,8 +9,8 @@ use Rattle.theory.specs.orders.CommonWithin.{common-parts}
 use Rattle.letters.proofs.OrderLaws.{sign-read}
 use Rattle.checks.specs.declared.Checked.the-variants.{Passed}
 use Rattle.checks.specs.Lines.{tried}
+use Rattle.checks.specs.Answers.{refuses}
 use Rattle.checks.proofs.LineLaws.{passed, refused}
-use Rattle.compare.specs.declared.suffixes.Comparison.{Comparison}
 use Rattle.compare.specs.Compare.{compareLines}
 use Rattle.compare.proofs.ComparisonLaws.{Within, within}
 use Rattle.compare.proofs.suffixes.compare_within.Statement.{statement}
@@ -39,7 +39,7 @@ number-requires c κs = search needs
 returns : tie.Need-returns
 returns c =
     let at-match = c .before .before in
-    record { answer = refused _ _ (λ (n : ℕ). Comparison.Refused n) (at-match .before .admit .ensures) (at-match .match .keys2) (c .number .ensures) }
+    record { answer = refused _ _ (λ (n : ℕ). refuses n) (at-match .before .admit .ensures) (at-match .match .keys2) (c .number .ensures) }
 
 sub-compare-words : tie.Need-sub-compare-words
 sub-compare-words c = omega (arith, within-at (c .before))
