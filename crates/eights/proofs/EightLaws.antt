@@ -1,6 +1,6 @@
--- Letters as a number: of two letters (little-two), and a longer number of two shorter ones (little-halves). The bytes of the number are the letters
--- (bytes-of-part).
-use mathlib.Core.Path.{_≡_, refl, ap, _∙_}
+-- Letters as a number: of two letters (little-two), and a longer number of two shorter ones (little-halves). The bytes of the number are the letters, so
+-- equal numbers have equal letters (same-letters), and two numbers tell how many letters are equal (pair-tells).
+use mathlib.Core.Path.{_≡_, refl, ap, sym, _∙_}
 use mathlib.Core.List.{List, [], _∷_}
 use Prim.Native.Nat.{ℕ, zero, suc, _+_, _-_, _*_, _/_, _%_, _^_, _≤_, _<_}
 use native.Mathlib.Nat.{add-zero, mul-assoc, mul-left-comm}
@@ -9,11 +9,10 @@ use native.Mathlib.Decide.{decLt}
 use lib.ListN.{length, getD, take, length-take, List·getD-eq-default}
 use lib.Seq.{slice, slice-empty, slice-cons, length-slice, getD-take, getD-drop}
 use lib.Pow.{pow-add}
-use Rattle.eights.specs.Eights.{littleEndian, bytesOf}
-
--- every letter is a byte
-abbrev pub Bytes : List ℕ → Type 0
-Bytes x = (t : ℕ) → getD x t 0 < 256
+use lib.Count.{trailingZeros}
+use lib.Bits.{bitXor}
+use Rattle.eights.specs.Eights.{littleEndian, Bytes, NumberAt, PairTells}
+use Rattle.eights.proofs.ZeroLaws.{bytesOf, zeros-common}
 
 bytes-of-letters : (x : List ℕ) → Bytes x → bytesOf (length x) (littleEndian x) ≡ x
 unfolding bytesOf littleEndian
@@ -80,10 +79,17 @@ little-halves x l m n h = rw (let e : l + m + n ≡ l + (m + n) = omega arith in
 
 -- ---- the n letters from l on
 
-module _ (l n : ℕ) (x : List ℕ) (h : l + n ≤ length x) where
-  pub part-length : length (slice l (l + n) x) ≡ n
-  part-length = length-slice l (l + n) x h ∙ (let e : l + n - l ≡ n = omega arith in e)
+pub part-length : (l n : ℕ) (x : List ℕ) → l + n ≤ length x → length (slice l (l + n) x) ≡ n
+part-length l n x h = length-slice l (l + n) x h ∙ (let e : l + n - l ≡ n = omega arith in e)
 
-  -- the bytes of their number are these letters
-  pub bytes-of-part : Bytes x → bytesOf n (littleEndian (slice l (l + n) x)) ≡ slice l (l + n) x
-  bytes-of-part b = let e = bytes-of-letters (slice l (l + n) x) (bytes-slice l (l + n) x b) in rw part-length at e
+-- the bytes of their number are these letters
+bytes-at : {n l v : ℕ} {x : List ℕ} → NumberAt n x l v → bytesOf n v ≡ slice l (l + n) x
+bytes-at {n} {l} {v} {x} a =
+    let e = bytes-of-letters (slice l (l + n) x) (bytes-slice l (l + n) x (a .bytes)) in
+    rw (a .number-is) (rw (part-length l n x (a .remain)) at e)
+
+pub same-letters : {n l v : ℕ} {x y : List ℕ} → NumberAt n x l v → NumberAt n y l v → slice l (l + n) x ≡ slice l (l + n) y
+same-letters a b = sym (bytes-at a) ∙ bytes-at b
+
+pub pair-tells : (v w : ℕ) → PairTells v w (trailingZeros 64 (bitXor v w) / 8)
+pair-tells v w = record { common-is = λ x y l a b. rw (← bytes-at a, ← bytes-at b) (zeros-common 8 v w) }

@@ -2,6 +2,7 @@
 -- differs all bits are equal, and that bit lies in the first byte that differs. Stated over the number of bytes.
 use mathlib.Core.Path.{_≡_, refl, ap, sym, _∙_}
 use mathlib.Core.Bool.{Bool, true, false}
+use mathlib.Core.List.{List, [], _∷_}
 use Prim.Native.Nat.{ℕ, zero, suc, _+_, _*_, _/_, _%_, _^_, _<_}
 use native.Mathlib.Nat.{zero-add, suc-add, mul-comm, div-one, pow-suc, div-div-eq-div-mul}
 use native.Mathlib.Omega.{arith}
@@ -11,7 +12,6 @@ use lib.Count.{trailingZeros, under}
 use lib.Bits.{bitXor, xor-self, xor-shr, xor-mod, xor-add-and, and-le-l, and-le-r}
 use Rattle.words.specs.Words.{commonLength}
 use Rattle.theory.specs.orders.Decisions.{Decides, holds, fails, eqb-test}
-use Rattle.eights.specs.Eights.{bytesOf}
 
 -- ---- trailing zeros of j + k bits: they end among the j lowest, or these are all zero and the count goes on above them
 
@@ -41,6 +41,11 @@ zeros-of zero k n =
 zeros-of (suc j) k n = rw (suc-add j k) (zeros-bit j k n (n % 2) refl (zeros-of j k (n / 2)))
 
 -- ---- two numbers by their bytes
+
+-- the n lowest bytes of v, its digits in base 256, the lowest one first
+unfoldable pub bytesOf : ℕ → ℕ → List ℕ
+bytesOf zero v = []
+bytesOf (suc n) v = v % 256 ∷ bytesOf n (v / 256)
 
 xor-none : (a b : ℕ) → bitXor a b ≡ 0 → a ≡ b
 xor-none a b e = omega (arith, xor-add-and a b, and-le-l a b, and-le-r a b)

@@ -1,12 +1,12 @@
--- THEOREM examples. The definitions compute: two bytes as a number and back; of two words that part at their sixth letter, the trailing zeros of the
--- exclusive or of their numbers, and how many bytes are equal; of a word with itself, 64 and 8.
+-- THEOREM examples. The definitions compute: two bytes as a number; of two words that part at their sixth letter, how many bytes the trailing zeros of the
+-- exclusive or of their numbers make, and their common length, both 5; of a word with itself, both 8.
 use mathlib.Core.Path.{_≡_, refl}
 use mathlib.Core.List.{List, [], _∷_}
-use Prim.Native.Nat.{ℕ}
+use Prim.Native.Nat.{ℕ, _/_}
 use lib.Count.{trailingZeros}
 use lib.Bits.{bitXor}
 use Rattle.words.specs.Words.{commonLength}
-use Rattle.eights.specs.Eights.{littleEndian, bytesOf}
+use Rattle.eights.specs.Eights.{littleEndian}
 
 -- c b a b a c b a and c b a b a d b a
 abbrev x : List ℕ
@@ -17,12 +17,11 @@ y = 99 ∷ 98 ∷ 97 ∷ 98 ∷ 97 ∷ 100 ∷ 98 ∷ 97 ∷ []
 
 pub record Examples : Type 0 where
   pub first-lowest : littleEndian (1 ∷ 2 ∷ []) ≡ 513
-  pub back : bytesOf 2 513 ≡ 1 ∷ 2 ∷ []
-  pub zeros : trailingZeros 64 (bitXor (littleEndian x) (littleEndian y)) ≡ 40
-  pub five : commonLength (bytesOf 8 (littleEndian x)) (bytesOf 8 (littleEndian y)) ≡ 5
-  pub no-difference : trailingZeros 64 (bitXor (littleEndian x) (littleEndian x)) ≡ 64
-  pub eight : commonLength (bytesOf 8 (littleEndian x)) (bytesOf 8 (littleEndian x)) ≡ 8
+  pub five-bytes : trailingZeros 64 (bitXor (littleEndian x) (littleEndian y)) / 8 ≡ 5
+  pub five-letters : commonLength x y ≡ 5
+  pub eight-bytes : trailingZeros 64 (bitXor (littleEndian x) (littleEndian x)) / 8 ≡ 8
+  pub eight-letters : commonLength x x ≡ 8
 
 pub examples : Examples
-unfolding littleEndian bytesOf trailingZeros commonLength
-examples = record { first-lowest = refl; back = refl; zeros = refl; five = refl; no-difference = refl; eight = refl }
+unfolding littleEndian trailingZeros commonLength
+examples = record { first-lowest = refl; five-bytes = refl; five-letters = refl; eight-bytes = refl; eight-letters = refl }

@@ -36,7 +36,7 @@ pub fn factor_at<'a>(word: &'a [u8], pairs: &[u16], number: usize, refusal: &mut
     let recorded = checks::check_record(word);
     let Checked::Passed = recorded else {
         *refusal = recorded.number();
-        return &word[0..0];
+        return &word[..0];
     };
     part_at(word, pairs, number, refusal)
 }

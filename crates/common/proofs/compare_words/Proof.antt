@@ -47,12 +47,8 @@ parts : (c : tie.After-equal-bytes Inv-loop μ-loop) → let start = c .before .
     PartedAt (start .args .x .now) (start .args .y .now) (c .before .before .before .before .before .loop .l + c .equal-bytes .result)
 parts c =
     let first = c .before .before .before in
-    let turn = first .before in
-    let known = turn .before .before .before in
-    rw (c .equal-bytes .ensures, first .eight-at .ensures, c .before .before .eight-at2 .ensures)
-    (numbers-part _ _ _ 8 (eights turn .0) (eights turn .1)
-    (λ t. known .before .shared-slice-known .given t .fits) (λ t. known .shared-slice-known2 .given t .fits)
-    (turn .before .loop .inv .0) (rw (first .eight-at .ensures, c .before .before .eight-at2 .ensures) at (c .before .if1 .taken)))
+    numbers-part _ _ _ _ _ (first .eight-at .ensures) (c .before .before .eight-at2 .ensures) (first .before .before .loop .inv .0)
+    (c .before .if1 .taken) (c .equal-bytes .ensures)
 
 cast-parted-at : tie.Need-cast-parted-at Inv-loop μ-loop
 cast-parted-at c = record { fits = omega (arith, c .equal-bytes .ok) }
@@ -80,12 +76,9 @@ loop-less c = search needs
 loop-again : tie.Need-loop-again Inv-loop μ-loop
 loop-again c =
     let first = c .before .before in
-    let turn = first .before in
-    let known = turn .before .before .before in
-    let same = c .if1 .left in (
-      equal-numbers _ _ _ 8 (eights turn .0) (eights turn .1) (λ t. known .before .shared-slice-known .given t .fits)
-          (λ t. known .shared-slice-known2 .given t .fits) (turn .before .loop .inv .0) (rw (first .eight-at .ensures, c .before .eight-at2 .ensures) at same),
-      omega (arith, turn .before .loop .inv .1),
+    let at-loop = first .before .before in (
+      equal-numbers _ _ _ _ _ (first .eight-at .ensures) (c .before .eight-at2 .ensures) (at-loop .loop .inv .0) (c .if1 .left),
+      omega (arith, at-loop .loop .inv .1),
     )
 
 compare-from-requires : tie.Need-compare-from-requires Inv-loop μ-loop

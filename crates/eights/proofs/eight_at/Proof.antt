@@ -27,7 +27,13 @@ add-result : tie.Need-add-result
 add-result c = record { fits = omega (arith, c .before .four-at .ok, c .four-at2 .ok) }
 
 returns : tie.Need-returns
-returns c = rw (c .before .four-at .ensures, c .four-at2 .ensures) (little-halves _ _ 4 4 (c .before .before .before .pre))
+returns c =
+    let pre = c .before .before .before .pre in
+    record {
+      remain = pre;
+      bytes = c .four-at2 .ensures .bytes;
+      number-is = rw (c .before .four-at .ensures .number-is, c .four-at2 .ensures .number-is) (little-halves _ _ 4 4 pre);
+    }
 
 pub eight-at-spec : {M : Type 1} → statement M
 eight-at-spec = tie.close (tie.spec four-at-requires cast-result add-four-at four-at-requires-2 cast-result-2 mul-result add-result returns)

@@ -27,7 +27,13 @@ add-result : tie.Need-add-result
 add-result c = record { fits = omega (arith, c .before .two-at .ok, c .two-at2 .ok) }
 
 returns : tie.Need-returns
-returns c = rw (c .before .two-at .ensures, c .two-at2 .ensures) (little-halves _ _ 2 2 (c .before .before .before .pre))
+returns c =
+    let pre = c .before .before .before .pre in
+    record {
+      remain = pre;
+      bytes = c .two-at2 .ensures .bytes;
+      number-is = rw (c .before .two-at .ensures .number-is, c .two-at2 .ensures .number-is) (little-halves _ _ 2 2 pre);
+    }
 
 pub four-at-spec : {M : Type 1} → statement M
 four-at-spec = tie.close (tie.spec two-at-requires cast-result add-two-at two-at-requires-2 cast-result-2 mul-result add-result returns)

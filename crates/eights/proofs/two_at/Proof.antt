@@ -37,7 +37,9 @@ add-result-2 c =
     record { fits = omega (arith, c .shared-slice-known2 .given l .fits, c .shared-slice-known2 .given (l + 1) .fits) }
 
 returns : tie.Need-returns
-returns c = sym (little-two _ _ (c .before .before .pre))
+returns c =
+    let pre = c .before .before .pre in
+    record { remain = pre; bytes = λ t. c .shared-slice-known2 .given t .fits; number-is = sym (little-two _ _ pre) }
 
 pub two-at-spec : {M : Type 1} → statement M
 two-at-spec = tie.close (tie.spec shared-slice-read-result cast-result add-result shared-slice-read-result-2 cast-result-2 mul-result add-result-2 returns)

@@ -20,14 +20,8 @@ enum-told-2 c = search needs
 number-requires : tie.Need-number-requires
 number-requires c κs = search needs
 
-sub-result : tie.Need-sub-result
-sub-result c = search needs
-
-part-result-start : tie.Need-part-result-start
-part-result-start c = search needs
-
-part-result-end : tie.Need-part-result-end
-part-result-end c = search needs
+slice-aggregate-result : tie.Need-slice-aggregate-result
+slice-aggregate-result c = search needs
 
 returns : tie.Need-returns
 returns c =
@@ -50,6 +44,4 @@ returns-2 c =
     }
 
 pub factor-at-spec : {M : Type 1} → statement M
-factor-at-spec =
-    tie.close
-    (tie.spec check-record-requires enum-told enum-told-2 number-requires sub-result part-result-start part-result-end returns part-at-requires returns-2)
+factor-at-spec = tie.close (tie.spec check-record-requires enum-told enum-told-2 number-requires slice-aggregate-result returns part-at-requires returns-2)
