@@ -1,6 +1,6 @@
 -- The lines of the table, whatever they are: what is known in the two branches of `let Checked::Passed = k else` (passed, refused, not-both), lines
 -- that are tried in two parts (both, refused-first, passed-first), at a call's door and past it (refused-at-door, past-door, both-pass, both-passed), what it
--- tells that all pass (unmet, all-pass), what an answer says (reading, said), which numbers can come (first-listed, zero-passes, numbered-is, unless-but), and
+-- tells that all pass (unmet, all-pass), what an answer says (reading, said, gave, count-given), which numbers can come (first-listed, zero-passes, numbered-is, unless-but), and
 -- calls that fill a result buffer (filled-refused, filled-done; at a door filled-at-door, filled-past-door; and back: filled-counted, filled-entries,
 -- filled-front, filled-number).
 use mathlib.Core.Path.{_≡_, refl, ap, sym, _∙_}
@@ -141,14 +141,10 @@ pub gave : {A : Type 0} (values : A) (k : Checked) {s : Says A} → s ≡ decide
 gave values Passed e p = (refl, e)
 gave values (Refused number) e p = absurd (not-both (ap checked e) p)
 
--- an answer is known by what it says
+-- a result is known by what it says
 pub count-given : (r : Counted) {n : ℕ} → countSays r ≡ gives n → r ≡ Counted.Count n
 count-given (Counted.Count m) {n} e = let z : m ≡ n = cc in ap (λ (t : ℕ). Counted.Count t) z
 count-given (Counted.Refused number) e = let z : _≡_ {A = ℕ} 0 1 = cc in absurd (omega arith)
-
-pub count-refused : (r : Counted) {e : ℕ} → countSays r ≡ refuses e → r ≡ Counted.Refused e
-count-refused (Counted.Count m) z = let b : _≡_ {A = ℕ} 0 1 = cc in absurd (omega arith)
-count-refused (Counted.Refused number) {e} z = let b : number ≡ e = cc in ap (λ (t : ℕ). Counted.Refused t) b
 
 both-true : (a b : Bool) → (a && b) ≡ true → (a ≡ true) × (b ≡ true)
 both-true true b e = (refl, e)

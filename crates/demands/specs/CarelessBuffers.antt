@@ -31,7 +31,8 @@ Leaves f g w work pairs r work′ pairs′ =
     × (work′ ≡ g w work unless recordDoor .door w ++ icflLines w (length work) (length pairs) then workAfter (3 * length w) work)
 
 -- "writes exactly the answer's entries": one that fills the buffer up with zeros
-pub filled-up : ¬ Demand2 (cutter (Leaves (λ w pairs. separatedPairs w ++ replicate (length pairs - length (separatedPairs w)) 0) (λ w. cleared (3 * length w)))) (a ∷ [])
+pub filled-up : ¬ Demand2 (cutter (Leaves
+    (λ w pairs. separatedPairs w ++ replicate (length pairs - length (separatedPairs w)) 0) (λ w. cleared (3 * length w)))) (a ∷ [])
 unfolding tried separatedIcflEnds separatedPairs
 filled-up d =
     let gave = d .pieces (replicate 3 0) (7 ∷ 7 ∷ 7 ∷ []) _ _ (Counted.Count 1) (refl, refl, refl) refl in

@@ -1,5 +1,5 @@
--- THEOREMS about demand 3: it shuts out ends that are not the factorization's (whole-not-exceeding, strict-not-losing) and a comparison that does not look at the
--- letters (order-of-places), and would be false of stretches that are not whole pieces (any-stretch) and of whole answers (whole-answers).
+-- THEOREMS about demand 3: it shuts out ends that are not the factorization's (whole-not-exceeding, strict-not-losing) and a comparison that does not look at
+-- the letters (order-of-places), and would be false of stretches that are not whole pieces (any-stretch) and of whole answers (whole-answers).
 use mathlib.Core.Path.{_≡_, refl, ap, sym, _∙_}
 use mathlib.Core.Bool.{true, false}
 use mathlib.Core.List.{List, [], _∷_, _++_, List·Memᴰ·head}
@@ -84,7 +84,8 @@ aboveZero (negsuc n) = 0
 abbrev byPlace : ℕ → ℕ → ℤ
 byPlace start other = elim (eqb start other) [ true ↦ pos 0 | false ↦ elim (ltb start other) [ true ↦ negsuc 0 | false ↦ pos 1 ] ]
 
-pub order-of-places : ¬ Demands recordDoor (comparer (Compares (λ w first end start other. Comparison.Order (byPlace start other) (commonWithin w first end start other))))
+pub order-of-places : ¬ Demands recordDoor (comparer (Compares
+    (λ w first end start other. Comparison.Order (byPlace start other) (commonWithin w first end start other))))
 unfolding tried sign
 order-of-places d =
     let w : List ℕ = a ∷ b ∷ [] in

@@ -48,7 +48,8 @@ abbrev Tells : (f : List ℕ → Summary) (g : ℕ → Summary) → Summing
 Tells f g w ps r = r ≡ f (endsOf ps) unless recordDoor .door w ++ summaryLines w ps then g
 
 -- "Where other numbers must stand beside it, as the summary's, they are 0."
-pub count-beside-refusal : ¬ Demand1 recordDoor (summer (Tells summaryOf (λ e. record { refusal = e; count = 1; longest = 0; from = 0; bands = replicate 13 0 })))
+pub count-beside-refusal : ¬ Demand1 recordDoor (summer (Tells summaryOf
+    (λ e. record { refusal = e; count = 1; longest = 0; from = 0; bands = replicate 13 0 })))
 unfolding tried
 count-beside-refusal d =
     let z : _≡_ {A = ℕ} 1 0 = ap (λ (s : Summary). s .count) (d .summary [] [] _ refl .1 1 refl) in
@@ -74,3 +75,7 @@ bands-too-high d =
     let told = d .summary (a ∷ []) (1 ∷ 1 ∷ []) _ refl refl in
     let z : _≡_ {A = ℕ} 0 1 = ap (λ (t : List ℕ). getD t 0 0) (told .bands) in
     omega arith
+
+-- "The answer to every call, for every input": one that gives none
+pub never-answers : ¬ Demand1 recordDoor (summer (λ w ps r. ⊥))
+never-answers d = d .answered .summary [] [] .1

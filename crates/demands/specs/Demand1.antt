@@ -61,7 +61,8 @@ pub record UntouchedBut4 (n : ℕ) (said : Checked) (work work′ : List ℕ) : 
 pub record Total (c : Calls) : Type 0 where
   pub test : (w work : List ℕ) → (r : Extension) × (work′ : List ℕ) × c .Test w work r work′
   pub pieceCut : (w work pairs : List ℕ) → (r : Counted) × (work′ pairs′ : List ℕ) × c .PieceCut w work pairs r work′ pairs′
-  pub reasonedCut : (w work pairs breaks : List ℕ) → (r : CountedBreaks) × (work′ pairs′ breaks′ : List ℕ) × c .ReasonedCut w work pairs breaks r work′ pairs′ breaks′
+  pub reasonedCut : (w work pairs breaks : List ℕ) → (r : CountedBreaks) × (work′ pairs′ breaks′ : List ℕ)
+      × c .ReasonedCut w work pairs breaks r work′ pairs′ breaks′
   pub card : (bytes es work pairs : List ℕ) → (r : Batch) × (work′ pairs′ : List ℕ) × c .CardCut bytes es work pairs r work′ pairs′
   pub strictCut : (w ends : List ℕ) → (r : Counted) × (ends′ : List ℕ) × c .StrictCut w ends r ends′
   pub startTable : (w out : List ℕ) → (r : Counted) × (out′ : List ℕ) × c .StartTable w out r out′

@@ -42,8 +42,8 @@ pub record Gave (vs : List ℕ) (r : Counted) (buffer buffer′ : List ℕ) : Ty
   pub count : countSays r ≡ gives (length vs)
   pub entries : buffer′ ≡ written vs buffer
 
--- request 108: "the cut still answers with the number of pieces", and writes their pairs. "After an accepted cut or test .. the entries counted in line 3 are zero
--- and later ones unchanged."
+-- request 108: "the cut still answers with the number of pieces", and writes their pairs. "After an accepted cut or test .. the entries counted in line 3 are
+-- zero and later ones unchanged."
 pub record GavePairs (w : List ℕ) (r : Counted) (work pairs work′ pairs′ : List ℕ) : Type 0 where
   pub count : countSays r ≡ gives (length (separatedIcflEnds w))
   pub entries : pairs′ ≡ written (separatedPairs w) pairs
@@ -70,7 +70,8 @@ pub record Published (v : List ℕ) : Type 0 where
   pub only : (ls : List (List ℕ)) → CflInOf v ls → ls ≡ cflIn v
 
 pub record Demand2 (c : Calls) (w : List ℕ) : Type 0 where
-  -- "The pieces of a record of 1 to 4,096 bytes .."; request 108: "the end and the number of strict pieces inside"
+  -- "The pieces of a record of 1 to 4,096 bytes .."; request 108: "Each entry of the piece cut becomes two numbers, the end and the number of strict pieces
+  -- inside."
   pub pieces : (work pairs work′ pairs′ : List ℕ) (r : Counted) → c .PieceCut w work pairs r work′ pairs′ → checked (countSays r) ≡ Passed
       → GavePairs w r work pairs work′ pairs′
   pub counted : PairsOf w (separatedPairs w)

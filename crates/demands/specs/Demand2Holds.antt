@@ -112,7 +112,8 @@ module _ (d : Doorway) (sound : Sound d) (c : Calls) (m : Meets (d .door) c) (w 
     unmarked = stretches-unmarked w;
     published = λ v h. published v;
     falls = λ work work′ h.
-        holds-told w Extension.InverseLyndon (inl refl) (verdict-is w work work′ Extension.InverseLyndon (m .test w work Extension.InverseLyndon work′ h) refl .0);
+        holds-told w Extension.InverseLyndon (inl refl)
+        (verdict-is w work work′ Extension.InverseLyndon (m .test w work Extension.InverseLyndon work′ h) refl .0);
     fails = λ work work′ l p r h. verdict-fails w work work′ l p r s (m .test w work (Extension.Failing l p r) work′ h);
     tested = λ work work′ r h e. verdict-is w work work′ r (m .test w work r work′ h) e .1;
     reasons = λ work pairs breaks work′ pairs′ breaks′ r h.

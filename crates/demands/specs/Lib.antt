@@ -3,6 +3,7 @@
 --   Calls              the calls that they speak of: those behind the lines of a door, of which the library's and the exported functions are an instance
 --   Meets              calls that meet the promises behind a door that is sound, as the library's do; ExportedMeets: the exported functions do
 --   .. Holds           the theorem of one demand or request, of all such calls; GivenExists: for every record there is what demand 3 speaks of
+--   DemandsSuffice     the converse: what meets the demands meets the promises, so nothing else does; AnswersTold, CardTold and ComparisonTold are its parts
 --   OneCall            the library but for one call
 --   Careless           paper 01's careless cutters, and the demand that shuts each of them out
 --   CarelessReasons    cuts with breaks that are careless, likewise
@@ -30,6 +31,10 @@ pub mod ReadingHolds
 pub mod CardHolds
 pub mod RepetitionsHold
 pub mod DemandsHold
+pub mod AnswersTold
+pub mod CardTold
+pub mod ComparisonTold
+pub mod DemandsSuffice
 pub mod OneCall
 pub mod Careless
 pub mod CarelessReasons

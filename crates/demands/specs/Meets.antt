@@ -1,6 +1,6 @@
--- Doorways that let in just the records of 1 to so many bytes (Sound), and calls whose answers meet the promises of the calls behind a door (Meets). The record's
--- lines are such a doorway (record-door), and the calls behind a door are such calls (behind-meets) and answer (behind-total); the exported functions:
--- ExportedMeets.
+-- Doorways that let in just the records of 1 to so many bytes (Sound), and calls whose answers meet the promises of the calls behind a door (Meets). The
+-- record's lines are such a doorway (record-door), and the calls behind a door are such calls (behind-meets) and answer (behind-total); the exported
+-- functions: ExportedMeets.
 use mathlib.Core.Path.{_≡_, refl, ap}
 use mathlib.Core.Bool.{Bool, true, false}
 use mathlib.Core.List.{List, [], _∷_, _++_}
@@ -42,6 +42,7 @@ pub record Sound (d : Doorway) : Type 0 where
   -- which records pass
   pub lets-in : (w : List ℕ) → 1 ≤ length w → length w ≤ d .most → tried (d .door w) ≡ Passed
   pub accepts : (w : List ℕ) → tried (d .door w) ≡ Passed → Accepted w
+  pub few : (w : List ℕ) → tried (d .door w) ≡ Passed → length w ≤ d .most
 
 pub record-door : Sound recordDoor
 record-door = record {
@@ -50,6 +51,7 @@ record-door = record {
   no-four = λ w. refl;
   lets-in = λ w s l. record-passes w (record { nonempty = s; short = l });
   accepts = accepted;
+  few = λ w p. accepted w p .short;
 }
 
 -- ---- calls

@@ -39,7 +39,8 @@ part-within [] (done z) x = absurd (adjacent-one x)
 part-within (e ∷ es) (more h r) x = ⊎-elim (λ z. omega (arith, z .1, rises-most r)) (λ y. part-within es r y) (adjacent-cases x)
 
 module _ (d : Doorway) (s : Sound d) (c : Calls) (m : Meets (d .door) c) (first : Demand1 d c) where
-  pub part-read : (w ps : List ℕ) (k : ℕ) (part : List ℕ) (number : ℕ) → c .Reading w ps k part number → numbered number ≡ Passed → PartRead w (endsOf ps) k part
+  pub part-read : (w ps : List ℕ) (k : ℕ) (part : List ℕ) (number : ℕ) → c .Reading w ps k part number → numbered number ≡ Passed
+      → PartRead w (endsOf ps) k part
   part-read w ps k part number h e =
       let none : tried (d .door w ++ factorLines w ps k) ≡ Passed = sym (first .reader w ps k part number h .0 .first) ∙ e in
       let below = leb-false (length (endsOf ps)) k (unmet (factorLines w ps k) (both-passed (d .door w) (factorLines w ps k) none .1) .1 .0) in

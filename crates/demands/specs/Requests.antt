@@ -1,5 +1,5 @@
--- DEFINITIONS. What paper 01 and requests 101, 105 and 107 promise of calls that demands 2 and 3 do not name: the part that is read, the summary, the answers for
--- the records of a card, and the list of repetitions.
+-- DEFINITIONS. What paper 01 and requests 101, 105 and 107 promise of calls that demands 2 and 3 do not name: the part that is read, the summary, the answers
+-- for the records of a card, and the list of repetitions.
 use mathlib.Core.Path.{_≡_}
 use mathlib.Core.List.{List, [], _∷_, _++_, sum, List·Memᴰ}
 use Prim.Native.Nat.{ℕ, _+_, _-_, _*_, _≤_, _<_}
@@ -23,7 +23,7 @@ use Rattle.demands.specs.Calls.{Calls}
 
 -- ---- paper 01's reader and summary, for a record w and a list with the ends es that are not refused
 
--- "The reader takes a record, a list of ends and a piece number from 0, and gives that part of the record.": from the end before it, 0 for the first, to its own
+-- "The reader takes a record, a list of ends and a piece number from 0, and gives that part of the record": from the end before it, 0 for the first, to its end
 pub record PartRead (w es : List ℕ) (k : ℕ) (part : List ℕ) : Type 0 where
   pub listed : Part es (factorFrom es k) (getD es k 0)
   pub part-is : part ≡ slice (factorFrom es k) (getD es k 0) w

@@ -1,5 +1,5 @@
--- DEFINITIONS. What is said of a list of words, of one step of the piece cut, of its breaks, of two starts (which comes first, how far they agree), and demand 3
--- of a word. The product of a list of words is the library's flatten.
+-- DEFINITIONS. What is said of a list of words, of one step of the piece cut, of its breaks, of two starts (which comes first, how far they agree), and
+-- demand 3 of a word. The product of a list of words is the library's flatten.
 use mathlib.Core.Path.{_≡_}
 use mathlib.Core.Logic.{_⊎_}
 use mathlib.Core.List.{List, [], _∷_, _++_, flatten, List·Memᴰ}
