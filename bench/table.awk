@@ -17,13 +17,13 @@ function row_of(call, record) {
     if (call ~ /metsroeb_(icfl|cfl_in)/ && record ~ /^(marks|a and a mark)/) return call ": many marks"
     return call
 }
-# Reader and summary are called once for a page. The breaks may cost something, beside the cut without them. The second peer of the
-# comparison and of the repetitions reads as the verified one does.
+# Reader and summary are called once for a page. The breaks may cost something, beside the cut without them. The peer of the comparison
+# and of the repetitions reads eight bytes in a step as the verified one does.
 function bar_of(row) {
     if (bar != "") return bar
     if (row ~ /both verified/) return 1.30
-    if (row ~ /eight bytes a step/) return 1.15
-    return row ~ /metsroeb_(factor|summarize)|ends at once|two starts/ ? 1.25 : 1.00
+    if (row ~ /metsroeb_(compare|runs)/) return 1.15
+    return row ~ /metsroeb_(factor|summarize)/ ? 1.25 : 1.00
 }
 # Bars that are known to be missed (docs/DECISIONS.md, the summary and marks): the run fails only above these.
 function limit_of(row) {

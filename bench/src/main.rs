@@ -13,7 +13,6 @@ use earlier as other;
 use inputs::{two_starts, INPUTS, MOST_LONG, RUN_INPUTS, STARTS, TWO_STARTS};
 #[cfg(not(earlier))]
 use metsroeb_tests::peer as other;
-use metsroeb_tests::peer::by_eights;
 use metsroeb_tests::words::Random;
 use std::hint::black_box;
 use std::time::Instant;
@@ -39,21 +38,6 @@ type Call = fn(&Case, &mut Buffers);
 /// `numbers` reads a comparison; it widens the number, since the stack frame of a smaller answer ends with a load that waits for the
 /// stores of its parts: 3 nanoseconds, half of a short call.
 macro_rules! calls_of {
-    (comparison $of:ident, $numbers:expr) => {
-        |case, _| {
-            black_box($of::compare_suffixes(&case.record, 0, case.end, case.starts[0], case.starts[1]).map($numbers)).ok();
-        }
-    };
-    (runs $of:ident) => {
-        |case, lent| {
-            black_box($of::runs(&case.record, &mut lent.runs).map(|runs| runs.len())).ok();
-        }
-    };
-    (counted runs $of:ident) => {
-        |case, lent| {
-            black_box($of::runs(&case.record, &mut lent.runs[..case.run_entries]).map(|runs| runs.len())).ok();
-        }
-    };
     (batch $of:ident, $batch:expr, $lent:expr) => {{
         let found = $of::icfl_batch(&$batch.bytes, &$batch.record_ends, &mut $lent.work, &mut $lent.pairs);
         black_box(found.map(|batch| count_entries(batch.iter()))).ok();
@@ -89,10 +73,16 @@ macro_rules! calls_of {
                 black_box($of::lyndon_table(&case.record, &mut lent.result)).ok();
             }),
             #[cfg(has = "runs")]
-            (RUNS, calls_of!(runs $of)),
+            ("`metsroeb_runs`, 3n result entries: one pass", |case, lent| {
+                black_box($of::runs(&case.record, &mut lent.runs).map(|runs| runs.len())).ok();
+            }),
             #[cfg(has = "runs")]
-            (COUNTED_RUNS, calls_of!(counted runs $of)),
-            (SUFFIXES, calls_of!(comparison $of, $numbers)),
+            ("`metsroeb_runs`, just enough result entries: counted first if fewer than 3n - 3", |case, lent| {
+                black_box($of::runs(&case.record, &mut lent.runs[..case.run_entries]).map(|runs| runs.len())).ok();
+            }),
+            (SUFFIXES, |case, _| {
+                black_box($of::compare_suffixes(&case.record, 0, case.end, case.starts[0], case.starts[1]).map($numbers)).ok();
+            }),
             ("`metsroeb_factor`, the last of the strict cut", |case, _| {
                 black_box($of::factor_at(&case.record, &case.$list, case.strict_ends.len() - 1)).ok();
             }),
@@ -107,8 +97,6 @@ macro_rules! calls_of {
     };
 }
 
-const RUNS: &str = "`metsroeb_runs`, 3n result entries: one pass";
-const COUNTED_RUNS: &str = "`metsroeb_runs`, just enough result entries: counted first if fewer than 3n - 3";
 const SUFFIXES: &str = "`metsroeb_compare`, the record with its suffix that agrees longest";
 
 const VERIFIED: &[(&str, Call)] = &calls_of!(metsroeb, strict_pairs);
@@ -118,25 +106,18 @@ const OTHER: &[(&str, Call)] = &calls_of!(other, strict_pairs);
 const OTHER: &[(&str, Call)] = &calls_of!(other, strict_ends);
 #[cfg(not(has = "common"))]
 const OTHER: &[(&str, Call)] = &calls_of!(other, strict_ends, |order| order);
-const BY_EIGHTS: Call = calls_of!(comparison by_eights, |found| (found.order, usize::from(found.common)));
-const RUNS_BY_EIGHTS: Call = calls_of!(runs by_eights);
 
 type Pair = (&'static str, [Call; 2]);
 
 /// What is timed on INPUTS, and what on STARTS, by name: each verified call beside the other side's; the verified cut with breaks beside the
-/// one without; the verified comparison and repetitions beside the second peer's.
+/// one without.
 fn pairs() -> [Vec<Pair>; 2] {
     let mut pairs: Vec<Pair> = VERIFIED.iter().zip(OTHER).map(|(of, other)| (of.0, [of.1, other.1])).collect();
     let sides_of = |wanted| pairs.iter().find(|(name, _)| *name == wanted).unwrap().1;
-    let comparison = sides_of(SUFFIXES);
-    let mut comparisons = vec![("`metsroeb_compare`, two starts that", comparison)];
+    let comparisons = vec![("`metsroeb_compare`, two starts that", sides_of(SUFFIXES))];
     if cfg!(not(earlier)) {
-        let [breaks, cut, runs] = ["`metsroeb_icfl_breaks`", "`metsroeb_icfl`", RUNS].map(|name| sides_of(name)[0]);
+        let [breaks, cut] = ["`metsroeb_icfl_breaks`", "`metsroeb_icfl`"].map(|name| sides_of(name)[0]);
         pairs.push(("`metsroeb_icfl_breaks` over `metsroeb_icfl`, both verified", [breaks, cut]));
-        pairs.push(("`metsroeb_runs` beside eight bytes a step", [runs, RUNS_BY_EIGHTS]));
-        let sides = [comparison[0], BY_EIGHTS];
-        pairs.push(("`metsroeb_compare` beside eight bytes a step, the record with its suffix that agrees longest", sides));
-        comparisons.push(("`metsroeb_compare` beside eight bytes a step, two starts that", sides));
     }
     [pairs, comparisons]
 }

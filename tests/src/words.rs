@@ -268,3 +268,12 @@ fn several_stretches(random: &mut Random, length: usize) -> Vec<u8> {
     word.truncate(length);
     word
 }
+
+/// The records one after another, and where each ends.
+pub fn batch_of(records: &[&[u8]]) -> (Vec<u8>, Vec<u32>) {
+    let ends = records.iter().scan(0, |end, record| {
+        *end += record.len() as u32;
+        Some(*end)
+    });
+    (records.concat(), ends.collect())
+}

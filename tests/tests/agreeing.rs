@@ -4,18 +4,16 @@
 use metsroeb::{Comparison, Run};
 use metsroeb_tests::agree::Answers;
 use metsroeb_tests::words::{Random, KINDS};
-use metsroeb_tests::{agree, promise, reference, Calls, PEER, PEER_BY_EIGHTS, VERIFIED};
+use metsroeb_tests::{agree, promise, reference, BOTH};
 use std::cmp::Ordering;
-
-const ALL: [&Calls; 3] = [&VERIFIED, &PEER, &PEER_BY_EIGHTS];
 
 /// The reference and every implementation give these numbers, and with the starts changed about the opposite order and the same number.
 fn expect(word: &[u8], range: [usize; 2], [start, other]: [usize; 2], order: Ordering, common: usize, random: &mut Random) {
     for (starts, order) in [([start, other], order), ([other, start], order.reverse())] {
         let want = Comparison { order, common: common as u16 };
         assert_eq!(promise::compare_suffixes(word, range[0], range[1], starts[0], starts[1]), Ok(want));
-        for calls in ALL {
-            agree::compare_suffixes(calls, word, range, starts, random);
+        for side in BOTH {
+            agree::compare_suffixes(side, word, range, starts, random);
         }
     }
 }
@@ -167,9 +165,9 @@ fn over_a_range_and_to_the_end() {
             let (start, near) = (random.below(n), 1 + random.below(12));
             let later = (start + near).min(n - 1);
             let end = later + 1 + random.below(n - later);
-            for calls in ALL {
-                let whole = (calls.compare_suffixes)(&word, 0, n, start, later).unwrap();
-                let part = (calls.compare_suffixes)(&word, start, end, start, later).unwrap();
+            for side in BOTH {
+                let whole = side.compare_suffixes(&word, 0, n, start, later).unwrap();
+                let part = side.compare_suffixes(&word, start, end, start, later).unwrap();
                 let left = (end - later) as u16;
                 assert_eq!(part.common, whole.common.min(left));
                 if part.common < left {
@@ -207,8 +205,8 @@ fn repetitions_end_anywhere() {
             let answers = Answers { runs: reference::runs(&word), ..Answers::NONE };
             let [first, end, period] = [first, end, period].map(|number| number as u16);
             assert!(answers.runs.contains(&Run { first, end, period }));
-            for calls in ALL {
-                agree::runs(calls, &word, &answers, 3 * answers.runs.len(), &mut random);
+            for side in BOTH {
+                agree::runs(side, &word, &answers, 3 * answers.runs.len(), &mut random);
             }
         }
     }

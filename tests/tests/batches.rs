@@ -1,26 +1,15 @@
 //! What requests 105 and 108 say of a card, a batch of records, through every implementation.
-use metsroeb::{raw, Refusal, MOST_RECORDS};
+use metsroeb::Refusal;
 use metsroeb_tests::agree::{self, batch_answers};
-use metsroeb_tests::words::{all_words, Random, KINDS, RECORDS};
-use metsroeb_tests::{promise, Calls, PEER, VERIFIED};
-
-const BOTH: [&Calls; 2] = [&VERIFIED, &PEER];
-
-/// The records one after another, and where each ends.
-fn batch_of(records: &[&[u8]]) -> (Vec<u8>, Vec<u32>) {
-    let ends = records.iter().scan(0, |end, record| {
-        *end += record.len() as u32;
-        Some(*end)
-    });
-    (records.concat(), ends.collect())
-}
+use metsroeb_tests::words::{all_words, batch_of, Random, RECORDS};
+use metsroeb_tests::{promise, BOTH, VERIFIED};
 
 /// Every implementation, with buffers of these sizes, does as promised.
 fn expect(bytes: &[u8], record_ends: &[u32], sizes: &[[usize; 2]], random: &mut Random) {
     let answers = batch_answers(bytes, record_ends);
-    for calls in BOTH {
+    for side in BOTH {
         for &sizes in sizes {
-            agree::icfl_batch(calls, bytes, record_ends, &answers, sizes, random);
+            agree::icfl_batch(side, bytes, record_ends, &answers, sizes, random);
         }
     }
 }
@@ -33,9 +22,9 @@ fn cut(
     sizes: [usize; 2],
     mut with: impl FnMut(Result<Vec<Result<Vec<u16>, u8>>, u8>, Vec<u16>, Vec<u16>),
 ) {
-    for calls in BOTH {
+    for side in BOTH {
         let [mut work, mut pairs] = sizes.map(|size| vec![7; size]);
-        let got = (calls.icfl_batch)(bytes, record_ends, &mut work, &mut pairs).map_err(Refusal::number);
+        let got = side.icfl_batch(bytes, record_ends, &mut work, &mut pairs).map_err(Refusal::number);
         let got = got.map(|batch| batch.iter().map(|reply| reply.map(<[u16]>::to_vec).map_err(Refusal::number)).collect());
         with(got, work, pairs);
     }
@@ -183,7 +172,7 @@ fn one_record_is_the_single_call() {
         for [work_len, pairs_len] in sizes {
             cut(&word, &[n as u32], [work_len, pairs_len], |got, work, pairs| {
                 let (mut single_work, mut single_pairs) = (vec![7; work_len], vec![7; pairs_len]);
-                let single = (VERIFIED.icfl)(&word, &mut single_work, &mut single_pairs);
+                let single = VERIFIED.icfl(&word, &mut single_work, &mut single_pairs);
                 assert_eq!(got, Ok(vec![single.map(<[u16]>::to_vec).map_err(Refusal::number)]));
                 assert_eq!((work, pairs), (single_work, single_pairs));
             });
@@ -214,110 +203,4 @@ fn long_records() {
     let full: Vec<Vec<u8>> = (0..64).map(|_| over(2, 4096, &mut random)).collect();
     let (bytes, record_ends) = batch_of(&full.iter().map(Vec::as_slice).collect::<Vec<_>>());
     expect(&bytes, &record_ends, &[[12_288, 2 * bytes.len()], [12_290, 40_000]], &mut random);
-}
-
-/// Records of all kinds, some empty; tight buffers; some lists with a fault. Twice as many entries as bytes are always enough.
-fn random_batches(rounds: usize, most_records: usize, most_bytes: usize, seed: u64) -> [usize; 11] {
-    let mut random = Random::new(seed);
-    let mut seen = [0; 11];
-    for _ in 0..rounds {
-        let count = 1 + random.below(most_records);
-        let words: Vec<Vec<u8>> = (0..count)
-            .map(|_| match random.below(10) {
-                0 => vec![],
-                _ => {
-                    let (_, make) = KINDS[random.below(KINDS.len())];
-                    let length = 1 + random.below(most_bytes);
-                    make(&mut random, length)
-                }
-            })
-            .collect();
-        let (bytes, mut record_ends) = batch_of(&words.iter().map(Vec::as_slice).collect::<Vec<_>>());
-        if random.below(6) == 0 {
-            let place = random.below(count);
-            let by = [1, 2, 256, 65_536, 1 << 24][random.below(5)];
-            let end = record_ends[place];
-            record_ends[place] = if random.below(2) == 0 { end.wrapping_add(by) } else { end.wrapping_sub(by) };
-        }
-        let answers = batch_answers(&bytes, &record_ends);
-        let needed: usize = answers.iter().map(Vec::len).sum();
-        let some = words[random.below(count)].len();
-        let longest = words.iter().map(Vec::len).max().unwrap();
-        let work_len = [3 * longest, 3 * longest + random.below(9), 3 * some, (3 * some).saturating_sub(1)][random.below(4)];
-        let enough = 2 * bytes.len();
-        let pairs_len = [enough, needed, needed.saturating_sub(1), random.below(needed + 1), needed / 2][random.below(5)];
-        for calls in BOTH {
-            agree::icfl_batch(calls, &bytes, &record_ends, &answers, [work_len, pairs_len], &mut random);
-        }
-        let [mut work, mut pairs] = [vec![0; work_len], vec![0; pairs_len]];
-        match promise::icfl_batch(bytes.len(), &record_ends, &answers, &mut work, &mut pairs) {
-            Err(number) => seen[number as usize] += 1,
-            Ok(replies) => {
-                let refused = |reply: &Result<_, u8>| reply.err().unwrap_or(0);
-                replies.iter().for_each(|reply| seen[refused(reply) as usize] += 1);
-                assert!(pairs_len < enough || replies.iter().all(|reply| refused(reply) != 4));
-                // a record behind one that was refused by 4 fits: counted in place 9
-                let behind = replies.iter().skip_while(|reply| refused(reply) != 4).any(|reply| refused(reply) == 0);
-                seen[9] += usize::from(behind);
-            }
-        }
-    }
-    seen
-}
-
-#[test]
-fn random_short_records() {
-    let seen = random_batches(20_000, 8, 12, 0x5eed_0057);
-    assert!([0, 1, 3, 4, 9, 10].iter().all(|&k| seen[k] > 1000), "{seen:?}");
-}
-
-#[test]
-fn random_records_to_100() {
-    let seen = random_batches(1_500, 64, 100, 0x5eed_0058);
-    assert!([0, 1, 3, 4, 9, 10].iter().all(|&k| seen[k] > 100), "{seen:?}");
-}
-
-#[test]
-fn random_long_records() {
-    let seen = random_batches(250, 64, 4096, 0x5eed_0059);
-    assert!([0, 1, 3, 4, 9, 10].iter().all(|&k| seen[k] > 10), "{seen:?}");
-}
-
-/// The struct that the exported function returns: a result of 0 in the places past the last record, and in all of them beside 10.
-#[test]
-fn every_place_of_the_answer() {
-    let mut random = Random::new(0x5eed_005a);
-    for count in (0..=66).chain([128, 65_537]) {
-        for broken in [false, true] {
-            let bytes = b"cbabacbac".repeat(count);
-            let mut record_ends: Vec<u32> = (1..=count).map(|k| 9 * k as u32).collect();
-            if broken && count > 0 {
-                record_ends[random.below(count)] += 10;
-            }
-            let [mut work, mut pairs] = [vec![7u16; 27], vec![7u16; 2 * count]];
-            let got = unsafe {
-                raw::metsroeb_icfl_batch(
-                    bytes.as_ptr(),
-                    bytes.len(),
-                    record_ends.as_ptr(),
-                    count,
-                    work.as_mut_ptr(),
-                    work.len(),
-                    pairs.as_mut_ptr(),
-                    pairs.len(),
-                )
-            };
-            let proper = (1..=64).contains(&count) && !broken;
-            assert_eq!(got.refusal, if proper { 0 } else { 10 });
-            for (k, raw::Reply { refusal, count: factors }) in got.replies.into_iter().enumerate() {
-                let want = match proper && k < count {
-                    true if 2 * k + 2 <= count => (0, 2),
-                    true => (4, 0),
-                    false => (0, 0),
-                };
-                assert_eq!((refusal, factors), want, "place {k} of {count} records");
-            }
-        }
-    }
-    assert_eq!((MOST_RECORDS, size_of::<raw::Batch>()), (64, 258));
 }

@@ -1,14 +1,12 @@
 //! Paper 01's records with known ends, and what else it and the requests say of records by name, through every implementation.
 use metsroeb::{Break, Comparison, Extension, Factor, Factors, Fate, Refusal, Run, Summary, MOST};
 use metsroeb_tests::words::{fibonacci_word, RECORDS};
-use metsroeb_tests::{reference, Calls, PEER, VERIFIED};
+use metsroeb_tests::{reference, Side, BOTH};
 use std::cmp::Ordering;
 
 const G: &[u8] = b"bbabbabbb";
 const H: &[u8] = b"cbabacbac";
 const I: &[u8] = b"cbabacaacbabacbac";
-
-const BOTH: [&Calls; 2] = [&VERIFIED, &PEER];
 
 #[test]
 fn records_a_to_k() {
@@ -16,18 +14,18 @@ fn records_a_to_k() {
         let word = word.as_bytes();
         assert_eq!(reference::icfl(word), pairs);
         assert_eq!(reference::cfl_in(word), strict);
-        for calls in BOTH {
+        for side in BOTH {
             let (mut work, mut result) = (vec![0; 3 * word.len()], vec![0; 2 * word.len()]);
-            assert_eq!((calls.icfl)(word, &mut work, &mut result), Ok(pairs));
-            assert_eq!((calls.cfl_in)(word, &mut result), Ok(strict));
+            assert_eq!(side.icfl(word, &mut work, &mut result), Ok(pairs));
+            assert_eq!(side.cfl_in(word, &mut result), Ok(strict));
             // reader and summary take the list as it is
-            assert_eq!((calls.summarize)(word, pairs).map(|summary| 2 * usize::from(summary.count)), Ok(pairs.len()));
+            assert_eq!(side.summarize(word, pairs).map(|summary| 2 * usize::from(summary.count)), Ok(pairs.len()));
             let mut from = 0;
             for (number, Factor { end, .. }) in Factors::read(pairs).enumerate() {
-                assert_eq!((calls.factor_at)(word, pairs, number), Ok(&word[from..end.into()]));
+                assert_eq!(side.factor_at(word, pairs, number), Ok(&word[from..end.into()]));
                 from = end.into();
             }
-            assert_eq!((calls.factor_at)(word, pairs, pairs.len() / 2), Err(Refusal::BAD_NUMBER));
+            assert_eq!(side.factor_at(word, pairs, pairs.len() / 2), Err(Refusal::BAD_NUMBER));
         }
     }
 }
@@ -65,9 +63,9 @@ fn breaks_of_records() {
     for (word, pairs, breaks) in records {
         let word = word.as_bytes();
         assert_eq!(reference::icfl_with_breaks(word), (pairs.to_vec(), breaks.to_vec()));
-        for calls in BOTH {
+        for side in BOTH {
             let mut lent = (vec![0; 3 * word.len()], vec![0; pairs.len()], vec![0; 5 * breaks.len()]);
-            let (got, considered) = (calls.icfl_with_breaks)(word, &mut lent.0, &mut lent.1, &mut lent.2).unwrap();
+            let (got, considered) = side.icfl_with_breaks(word, &mut lent.0, &mut lent.1, &mut lent.2).unwrap();
             assert_eq!((got, considered.len()), (pairs, breaks.len()));
             assert_eq!(considered.collect::<Vec<_>>(), breaks);
         }
@@ -77,9 +75,9 @@ fn breaks_of_records() {
 /// A factor fills two entries, "in its buffer a break fills five"; what lies past the answers stays.
 #[test]
 fn entries_of_i() {
-    for calls in BOTH {
+    for side in BOTH {
         let (mut pairs, mut breaks) = ([7; 6], [7; 12]);
-        (calls.icfl_with_breaks)(I, &mut [7; 51], &mut pairs, &mut breaks).unwrap();
+        side.icfl_with_breaks(I, &mut [7; 51], &mut pairs, &mut breaks).unwrap();
         assert_eq!(pairs, [13, 2, 17, 2, 7, 7]);
         assert_eq!(breaks, [8, 0, 6, 256, 1, 13, 8, 3, b'b'.into(), b'c'.into(), 7, 7]);
     }
@@ -88,10 +86,10 @@ fn entries_of_i() {
 /// "A short buffer for them is met by refusal 4, once the ends have been found to fit": the pairs are not written then.
 #[test]
 fn i_with_short_results() {
-    for calls in BOTH {
+    for side in BOTH {
         for (pairs_len, breaks_len) in [(4, 9), (3, 10), (3, 9), (2, 10), (0, 10)] {
             let (mut work, mut pairs, mut breaks) = ([7; 52], [7; 4], [7; 10]);
-            let got = (calls.icfl_with_breaks)(I, &mut work, &mut pairs[..pairs_len], &mut breaks[..breaks_len]);
+            let got = side.icfl_with_breaks(I, &mut work, &mut pairs[..pairs_len], &mut breaks[..breaks_len]);
             assert_eq!(got.err(), Some(Refusal::SHORT_RESULT));
             assert_eq!((&work[..51], work[51], pairs, breaks), (&[0; 51][..], 7, [7; 4], [7; 10]));
         }
@@ -100,8 +98,8 @@ fn i_with_short_results() {
 
 #[test]
 fn extensions_of_h_and_i() {
-    for calls in BOTH {
-        let found = |word| (calls.find_extension)(word, &mut [0; 17]);
+    for side in BOTH {
+        let found = |word| side.find_extension(word, &mut [0; 17]);
         assert_eq!(found(H), Ok(Extension::Failing { failing: 9, prefix: 5, border: 3 }));
         assert_eq!(found(I), Ok(Extension::Failing { failing: 15, prefix: 8, border: 6 }));
         assert_eq!(found(b"baba"), Ok(Extension::InverseLyndon));
@@ -110,18 +108,18 @@ fn extensions_of_h_and_i() {
 
 #[test]
 fn start_table_and_summary_of_h() {
-    for calls in BOTH {
-        assert_eq!((calls.lyndon_table)(H, &mut [0; 9]), Ok(&[5, 2, 1, 2, 1, 3, 2, 1, 1][..]));
+    for side in BOTH {
+        assert_eq!(side.lyndon_table(H, &mut [0; 9]), Ok(&[5, 2, 1, 2, 1, 3, 2, 1, 1][..]));
         let summary = Summary { count: 2, longest: 5, from: 0, bands: [0, 0, 2, 0, 0, 0, 0, 0, 0, 0, 0, 0, 0] };
-        assert_eq!((calls.summarize)(H, &[5, 1, 9, 2]), Ok(summary));
-        assert_eq!((calls.factor_at)(H, &[5, 1, 9, 2], 1), Ok(&b"cbac"[..]));
+        assert_eq!(side.summarize(H, &[5, 1, 9, 2]), Ok(summary));
+        assert_eq!(side.factor_at(H, &[5, 1, 9, 2], 1), Ok(&b"cbac"[..]));
     }
 }
 
 /// First place, end and period of each repetition of a word; the reference has the same.
-fn runs_of(calls: &Calls, word: &[u8]) -> Vec<[u16; 3]> {
+fn runs_of(side: &Side, word: &[u8]) -> Vec<[u16; 3]> {
     let mut entries = vec![0; 3 * word.len()];
-    let found: Vec<Run> = (calls.runs)(word, &mut entries).unwrap().collect();
+    let found: Vec<Run> = side.runs(word, &mut entries).unwrap().collect();
     assert_eq!(found, reference::runs(word));
     found.iter().map(|run| [run.first, run.end, run.period]).collect()
 }
@@ -143,10 +141,10 @@ fn repetitions_of_records() {
         ("abababcabababc", &[[0, 6, 2], [0, 14, 7], [7, 13, 2]]),
     ];
     for (word, runs) in records {
-        for calls in BOTH {
-            assert_eq!(runs_of(calls, word.as_bytes()), runs);
+        for side in BOTH {
+            assert_eq!(runs_of(side, word.as_bytes()), runs);
             let mut entries = vec![0; 3 * runs.len()];
-            assert_eq!((calls.runs)(word.as_bytes(), &mut entries).unwrap().len(), runs.len());
+            assert_eq!(side.runs(word.as_bytes(), &mut entries).unwrap().len(), runs.len());
         }
     }
 }
@@ -155,13 +153,13 @@ fn repetitions_of_records() {
 /// buffer gets 4", and is as it was.
 #[test]
 fn entries_of_a_list_and_short_lists() {
-    for calls in BOTH {
+    for side in BOTH {
         let mut entries = [7; 14];
-        assert_eq!((calls.runs)(b"aabaabaa", &mut entries).unwrap().len(), 4);
+        assert_eq!(side.runs(b"aabaabaa", &mut entries).unwrap().len(), 4);
         assert_eq!(entries, [0, 2, 1, 0, 8, 3, 3, 5, 1, 6, 8, 1, 7, 7]);
         let mut entries = [7; 12];
         for len in 0..12 {
-            assert_eq!((calls.runs)(b"aabaabaa", &mut entries[..len]).err(), Some(Refusal::SHORT_RESULT));
+            assert_eq!(side.runs(b"aabaabaa", &mut entries[..len]).err(), Some(Refusal::SHORT_RESULT));
             assert_eq!(entries, [7; 12]);
         }
     }
@@ -173,9 +171,9 @@ fn repetitions_of_fibonacci_words() {
     let (mut two_before, mut before) = (3, 5);
     while two_before + before <= MOST {
         let length = two_before + before;
-        for calls in BOTH {
+        for side in BOTH {
             for (x, y) in [(b'a', b'b'), (b'b', b'a')] {
-                assert_eq!(runs_of(calls, &fibonacci_word(x, y, length)).len(), 2 * two_before - 3);
+                assert_eq!(runs_of(side, &fibonacci_word(x, y, length)).len(), 2 * two_before - 3);
             }
         }
         (two_before, before) = (before, length);
@@ -197,8 +195,8 @@ fn latest_of_the_longest() {
         assert_eq!(reference::icfl(word), pairs);
         let wanted = |summary: Summary| (summary.longest, summary.from) == (longest, from);
         assert!(wanted(reference::summary(pairs)));
-        for calls in BOTH {
-            assert!((calls.summarize)(word, pairs).is_ok_and(wanted));
+        for side in BOTH {
+            assert!(side.summarize(word, pairs).is_ok_and(wanted));
         }
     }
 }
@@ -219,8 +217,8 @@ fn comparisons_by_name() {
     ] {
         let (x, y) = (&word[starts[0]..range[1]], &word[starts[1]..range[1]]);
         assert_eq!((reference::inverse_order(x, y), reference::common_length(x, y)), (order, common.into()));
-        for calls in BOTH {
-            let got = (calls.compare_suffixes)(word, range[0], range[1], starts[0], starts[1]);
+        for side in BOTH {
+            let got = side.compare_suffixes(word, range[0], range[1], starts[0], starts[1]);
             assert_eq!(got, Ok(Comparison { order, common }));
         }
     }
@@ -229,11 +227,11 @@ fn comparisons_by_name() {
 /// "Refusal 4 counts both numbers, so H needs four entries": also with three it gets 4, and the buffer is as it was.
 #[test]
 fn h_with_four_entries_and_with_fewer() {
-    for calls in BOTH {
-        assert_eq!((calls.icfl)(H, &mut [0; 27], &mut [0; 4]), Ok(&[5, 1, 9, 2][..]));
+    for side in BOTH {
+        assert_eq!(side.icfl(H, &mut [0; 27], &mut [0; 4]), Ok(&[5, 1, 9, 2][..]));
         for len in 0..4 {
             let (mut work, mut pairs) = ([7; 28], [7; 4]);
-            assert_eq!((calls.icfl)(H, &mut work, &mut pairs[..len]), Err(Refusal::SHORT_RESULT));
+            assert_eq!(side.icfl(H, &mut work, &mut pairs[..len]), Err(Refusal::SHORT_RESULT));
             assert_eq!((&work[..27], work[27], pairs), (&[0; 27][..], 7, [7; 4]));
         }
         assert_eq!(Refusal::SHORT_RESULT.number(), 4);
@@ -244,20 +242,20 @@ fn h_with_four_entries_and_with_fewer() {
 /// strict cut's is taken, and changes nothing. Line 8 counts pairs.
 #[test]
 fn lists_for_h() {
-    for calls in BOTH {
+    for side in BOTH {
         for pairs in [[5, 1, 9, 1], [5, 5, 9, 4], [5, 2, 9, 2]] {
-            assert_eq!((calls.factor_at)(H, &pairs, 1), Ok(&b"cbac"[..]));
-            assert_eq!((calls.summarize)(H, &pairs), (calls.summarize)(H, &[5, 1, 9, 2]));
+            assert_eq!(side.factor_at(H, &pairs, 1), Ok(&b"cbac"[..]));
+            assert_eq!(side.summarize(H, &pairs), side.summarize(H, &[5, 1, 9, 2]));
             for number in [2, 3, 4] {
-                assert_eq!((calls.factor_at)(H, &pairs, number), Err(Refusal::BAD_NUMBER));
+                assert_eq!(side.factor_at(H, &pairs, number), Err(Refusal::BAD_NUMBER));
             }
         }
         let odd: [&[u16]; 5] = [&[9], &[5, 9, 9], &[5, 1, 9], &[5, 1, 9, 2, 1], &[5, 1, 9, 2, 9]];
         let counts: [&[u16]; 6] = [&[5, 0, 9, 2], &[5, 1, 9, 0], &[5, 6, 9, 2], &[5, 1, 9, 5], &[5, 1, 9, 9], &[9, 10]];
         let ends: [&[u16]; 6] = [&[], &[5, 1], &[0, 1, 9, 2], &[9, 1, 9, 1], &[5, 1, 10, 2], &[5, 9]];
         for list in [&odd[..], &counts, &ends].concat() {
-            assert_eq!((calls.factor_at)(H, list, 0), Err(Refusal::BAD_PAIRS), "{list:?}");
-            assert_eq!((calls.summarize)(H, list), Err(Refusal::BAD_PAIRS), "{list:?}");
+            assert_eq!(side.factor_at(H, list, 0), Err(Refusal::BAD_PAIRS), "{list:?}");
+            assert_eq!(side.summarize(H, list), Err(Refusal::BAD_PAIRS), "{list:?}");
         }
         assert_eq!(Refusal::BAD_PAIRS.number(), 7);
     }
@@ -266,29 +264,29 @@ fn lists_for_h() {
 /// "Length 4,096 is accepted and 4,097 gets 2", by every call; the test refuses marks by 9.
 #[test]
 fn the_longest_record_and_one_byte_more() {
-    fn refusals(calls: &Calls, word: &[u8]) -> [Option<u8>; 9] {
+    fn refusals(side: &Side, word: &[u8]) -> [Option<u8>; 9] {
         let n = word.len();
         let (mut work, mut result, mut breaks) = (vec![0; 3 * n], vec![0; 2 * n], vec![0; 5 * n]);
         [
-            (calls.find_extension)(word, &mut work).err(),
-            (calls.icfl)(word, &mut work, &mut result).err(),
-            (calls.icfl_with_breaks)(word, &mut work, &mut result, &mut breaks).err(),
-            (calls.cfl_in)(word, &mut result).err(),
-            (calls.lyndon_table)(word, &mut result).err(),
-            (calls.runs)(word, &mut work).err(),
-            (calls.compare_suffixes)(word, 0, n, 0, n - 1).err(),
-            (calls.factor_at)(word, &[n as u16, 1], 0).err(),
-            (calls.summarize)(word, &[n as u16, 1]).err(),
+            side.find_extension(word, &mut work).err(),
+            side.icfl(word, &mut work, &mut result).err(),
+            side.icfl_with_breaks(word, &mut work, &mut result, &mut breaks).err(),
+            side.cfl_in(word, &mut result).err(),
+            side.lyndon_table(word, &mut result).err(),
+            side.runs(word, &mut work).err(),
+            side.compare_suffixes(word, 0, n, 0, n - 1).err(),
+            side.factor_at(word, &[n as u16, 1], 0).err(),
+            side.summarize(word, &[n as u16, 1]).err(),
         ]
         .map(|refused| refused.map(Refusal::number))
     }
     assert_eq!(MOST, 4096);
-    for calls in BOTH {
+    for side in BOTH {
         for letter in [0, b'a', 254, 255] {
             let mut wanted = [None; 9];
             wanted[0] = (letter == 255).then_some(9);
-            assert_eq!(refusals(calls, &vec![letter; 4096]), wanted);
-            assert_eq!(refusals(calls, &vec![letter; 4097]), [Some(2); 9]);
+            assert_eq!(refusals(side, &vec![letter; 4096]), wanted);
+            assert_eq!(refusals(side, &vec![letter; 4097]), [Some(2); 9]);
         }
     }
 }

@@ -1,11 +1,9 @@
 //! What requests 103, 107 and 108 say of records with marks, bytes 255, through every implementation.
 use metsroeb::{Break, Comparison, Fate, Refusal, Run};
-use metsroeb_tests::{reference, Calls, PEER, VERIFIED};
+use metsroeb_tests::{reference, BOTH};
 use std::cmp::Ordering;
 
 const I: &[u8] = b"cbabacaacbabacbac";
-const BOTH: [&Calls; 2] = [&VERIFIED, &PEER];
-
 /// Their piece ends, each with its count, which is 1 of a mark; their strict ends; their start tables.
 #[test]
 fn records_with_marks() {
@@ -20,11 +18,11 @@ fn records_with_marks() {
     ] {
         let answers = (reference::icfl(word), reference::cfl_in(word), reference::lyndon_table(word));
         assert_eq!(answers, (pairs.to_vec(), strict.to_vec(), lengths.to_vec()));
-        for calls in BOTH {
+        for side in BOTH {
             let (mut work, mut result) = (vec![0; 3 * word.len()], vec![0; 2 * word.len()]);
-            assert_eq!((calls.icfl)(word, &mut work, &mut result), Ok(pairs));
-            assert_eq!((calls.cfl_in)(word, &mut result), Ok(strict));
-            assert_eq!((calls.lyndon_table)(word, &mut result), Ok(lengths));
+            assert_eq!(side.icfl(word, &mut work, &mut result), Ok(pairs));
+            assert_eq!(side.cfl_in(word, &mut result), Ok(strict));
+            assert_eq!(side.lyndon_table(word, &mut result), Ok(lengths));
         }
     }
 }
@@ -40,9 +38,9 @@ fn breaks_of_i_beside_a_mark() {
     };
     let (pairs, breaks) = ([13, 2, 17, 2, 18, 1, 31, 2, 35, 2], [step(0), step(18)].concat());
     assert_eq!(reference::icfl_with_breaks(&word), (pairs.to_vec(), breaks.clone()));
-    for calls in BOTH {
+    for side in BOTH {
         let (mut work, mut lent_pairs, mut lent) = ([7; 105], [7; 10], [7; 20]);
-        let (got, considered) = (calls.icfl_with_breaks)(&word, &mut work, &mut lent_pairs, &mut lent).unwrap();
+        let (got, considered) = side.icfl_with_breaks(&word, &mut work, &mut lent_pairs, &mut lent).unwrap();
         assert_eq!(got, pairs);
         assert_eq!(considered.collect::<Vec<_>>(), breaks);
         assert_eq!(work, [0; 105]);
@@ -69,9 +67,9 @@ fn repetitions_beside_marks() {
     for (word, runs) in records {
         let runs: Vec<Run> = runs.iter().map(|&entries| Run::from(entries)).collect();
         assert_eq!(reference::runs(word), runs);
-        for calls in BOTH {
+        for side in BOTH {
             let mut entries = vec![0; 3 * runs.len()];
-            assert_eq!((calls.runs)(word, &mut entries).unwrap().collect::<Vec<_>>(), runs);
+            assert_eq!(side.runs(word, &mut entries).unwrap().collect::<Vec<_>>(), runs);
         }
     }
 }
@@ -79,12 +77,12 @@ fn repetitions_beside_marks() {
 /// "9, a test of a record that holds a mark, after 3": a short work buffer is met first, and 9 leaves it as it was too.
 #[test]
 fn test_of_a_record_with_a_mark() {
-    for calls in BOTH {
+    for side in BOTH {
         for word in [b"ba\xffba", b"\xffabab", b"ababa", b"baba\xff"] {
             let (marked, mut work) = (word.contains(&255), [7; 6]);
-            assert_eq!((calls.find_extension)(word, &mut work[..4]), Err(Refusal::SHORT_WORK));
+            assert_eq!(side.find_extension(word, &mut work[..4]), Err(Refusal::SHORT_WORK));
             assert_eq!(work, [7; 6]);
-            let refused = (calls.find_extension)(word, &mut work[..5]).err();
+            let refused = side.find_extension(word, &mut work[..5]).err();
             assert_eq!(refused, marked.then_some(Refusal::MARKED_RECORD));
             assert_eq!(work, if marked { [7; 6] } else { [0, 0, 0, 0, 0, 7] });
         }
@@ -95,12 +93,12 @@ fn test_of_a_record_with_a_mark() {
 /// "The comparison treats 255 as before", as the largest letter; equal marks count as equal bytes.
 #[test]
 fn comparisons_over_marks() {
-    for calls in BOTH {
+    for side in BOTH {
         for (end, order) in [(2, Ordering::Greater), (3, Ordering::Less)] {
-            let got = (calls.compare_suffixes)(b"\xff\xffa", 0, end, 0, 1);
+            let got = side.compare_suffixes(b"\xff\xffa", 0, end, 0, 1);
             assert_eq!(got, Ok(Comparison { order, common: 1 }));
         }
-        let got = (calls.compare_suffixes)(b"a\xffba\xffc", 0, 6, 0, 3);
+        let got = side.compare_suffixes(b"a\xffba\xffc", 0, 6, 0, 3);
         assert_eq!(got, Ok(Comparison { order: Ordering::Greater, common: 2 }));
     }
 }

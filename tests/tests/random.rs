@@ -4,7 +4,7 @@ use metsroeb::{Break, Factor, Factors, Fate, Run};
 use metsroeb_tests::agree::{self, Answers};
 use metsroeb_tests::reference::{self, SEPARATOR};
 use metsroeb_tests::words::{repeating, Random, KINDS};
-use metsroeb_tests::{Calls, PEER, PEER_BY_EIGHTS, VERIFIED};
+use metsroeb_tests::{BOTH, VERIFIED};
 
 /// `each` words of each kind, of `least` to `most` letters asked for.
 fn words(each: usize, least: usize, most: usize, random: &mut Random, mut with: impl FnMut(Vec<u8>, &mut Random)) -> usize {
@@ -21,29 +21,29 @@ fn words(each: usize, least: usize, most: usize, random: &mut Random, mut with: 
     count
 }
 
-fn against_definitions(all: &[&Calls], seed: u64, each: usize, least: usize, most: usize) -> usize {
+fn against_definitions(seed: u64, each: usize, least: usize, most: usize) -> usize {
     words(each, least, most, &mut Random::new(seed), |word, random| {
         let answers = Answers::by_definition(&word);
         assert!(reference::is_cfl_in(&word, &answers.cfl_in));
-        for calls in all {
-            agree::all(calls, &word, &answers, random);
+        for side in BOTH {
+            agree::all(side, &word, &answers, random);
         }
     })
 }
 
 #[test]
 fn short_words() {
-    assert_eq!(against_definitions(&[&VERIFIED, &PEER], 0x5eed_0011, 5_700, 1, 16), 62_700);
+    assert_eq!(against_definitions(0x5eed_0011, 5_700, 1, 16), 62_700);
 }
 
 #[test]
 fn short_words_to_32() {
-    assert_eq!(against_definitions(&[&VERIFIED, &PEER], 0x5eed_0012, 4_900, 12, 32), 53_900);
+    assert_eq!(against_definitions(0x5eed_0012, 4_900, 12, 32), 53_900);
 }
 
 #[test]
 fn words_to_200() {
-    assert_eq!(against_definitions(&[&VERIFIED, &PEER], 0x5eed_0013, 80, 33, 200), 880);
+    assert_eq!(against_definitions(0x5eed_0013, 80, 33, 200), 880);
 }
 
 #[test]
@@ -82,9 +82,9 @@ fn repetitions_in_long_words() {
             let answers = Answers { runs: reference::runs(&word), ..Answers::NONE };
             assert!(answers.runs.len() < word.len());
             let needed = 3 * answers.runs.len();
-            for calls in [&VERIFIED, &PEER, &PEER_BY_EIGHTS] {
+            for side in BOTH {
                 for runs_len in [needed.saturating_sub(1), needed, needed + 1 + random.below(9)] {
-                    agree::runs(calls, &word, &answers, runs_len, random);
+                    agree::runs(side, &word, &answers, runs_len, random);
                 }
             }
         };
@@ -97,6 +97,7 @@ fn repetitions_in_long_words() {
     both(1000, 1, 40);
     both(100, 41, 400);
     both(6, 401, 4096);
+    both(1, 4095, 4096);
 }
 
 /// What holds of the repetitions of any record: with the letters turned over they are the same; read backwards they are mirrored; those
@@ -104,7 +105,7 @@ fn repetitions_in_long_words() {
 #[test]
 fn repetitions_turned_over() {
     fn runs(word: &[u8]) -> Vec<Run> {
-        (VERIFIED.runs)(word, &mut vec![0; 3 * word.len()]).unwrap().collect()
+        VERIFIED.runs(word, &mut vec![0; 3 * word.len()]).unwrap().collect()
     }
     let mut random = Random::new(0x5eed_001a);
     let mut one = vec![b'a'];
@@ -134,7 +135,7 @@ fn breaks_and_ends() {
     words(650, 1, 4096, &mut Random::new(0x5eed_0017), |word, _| {
         let n = word.len();
         let (mut work, mut pairs, mut breaks) = (vec![0; 3 * n], vec![0; 2 * n], vec![0; 5 * n]);
-        let (pairs, breaks) = (VERIFIED.icfl_with_breaks)(&word, &mut work, &mut pairs, &mut breaks).unwrap();
+        let (pairs, breaks) = VERIFIED.icfl_with_breaks(&word, &mut work, &mut pairs, &mut breaks).unwrap();
         let ends: Vec<u16> = Factors::read(pairs).map(|factor| factor.end).collect();
         let is_mark = |place: usize| word[place] == SEPARATOR;
         let mut first_of = vec![0; n]; // of the stretch of a place
@@ -171,23 +172,23 @@ fn counts_and_strict_ends() {
     words(650, 1, 4096, &mut Random::new(0x5eed_001b), |word, _| {
         let n = word.len();
         let (mut work, mut pairs, mut same, mut breaks) = (vec![0; 3 * n], vec![0; 2 * n], vec![0; 2 * n], vec![0; 5 * n]);
-        let pairs = (VERIFIED.icfl)(&word, &mut work, &mut pairs).unwrap();
-        assert_eq!((VERIFIED.icfl_with_breaks)(&word, &mut work, &mut same, &mut breaks).unwrap().0, pairs);
+        let pairs = VERIFIED.icfl(&word, &mut work, &mut pairs).unwrap();
+        assert_eq!(VERIFIED.icfl_with_breaks(&word, &mut work, &mut same, &mut breaks).unwrap().0, pairs);
         let mut alone = Vec::new(); // the strict ends of the pieces by themselves, in the record's places
         for (number, Factor { end, anti_lyndon }) in Factors::read(pairs).enumerate() {
             let from = alone.last().map_or(0, |&end: &u16| end.into());
-            let piece = (VERIFIED.factor_at)(&word, pairs, number).unwrap();
+            let piece = VERIFIED.factor_at(&word, pairs, number).unwrap();
             assert_eq!(piece, &word[from..end.into()]);
             let (mut strict, from) = (vec![0; piece.len()], from as u16);
-            let strict = (VERIFIED.cfl_in)(piece, &mut strict).unwrap();
+            let strict = VERIFIED.cfl_in(piece, &mut strict).unwrap();
             assert_eq!(strict.len(), anti_lyndon.into());
             alone.extend(strict.iter().map(|&end| from + end));
             more_than_one += usize::from(anti_lyndon > 1);
         }
-        assert_eq!((VERIFIED.cfl_in)(&word, &mut vec![0; n]), Ok(&alone[..]));
+        assert_eq!(VERIFIED.cfl_in(&word, &mut vec![0; n]), Ok(&alone[..]));
         let sum: usize = Factors::read(pairs).map(|factor| usize::from(factor.anti_lyndon)).sum();
         assert_eq!(sum, alone.len());
-        assert_eq!((VERIFIED.summarize)(&word, pairs).map(|summary| summary.count.into()), Ok(Factors::read(pairs).len()));
+        assert_eq!(VERIFIED.summarize(&word, pairs).map(|summary| summary.count.into()), Ok(Factors::read(pairs).len()));
     });
     assert!(more_than_one > 10_000, "{more_than_one}");
 }

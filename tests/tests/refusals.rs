@@ -2,7 +2,7 @@
 use metsroeb_tests::agree::{self, Answers};
 use metsroeb_tests::reference::{parts, SEPARATOR};
 use metsroeb_tests::words::{all_divisions, all_words, with_counts, Random};
-use metsroeb_tests::{promise, PEER, VERIFIED};
+use metsroeb_tests::{promise, BOTH, VERIFIED};
 
 /// Records at the boundaries of lines 1 and 2, also where 16 bits overflow, with the answers for those that are accepted: over one
 /// letter, two, and all but the mark; then of marks alone, and with a mark as the last byte alone.
@@ -36,26 +36,26 @@ fn records_and_buffers() {
     let mut random = Random::new(0x5eed_0022);
     for (word, answers) in records() {
         let n = word.len().min(4098);
-        for calls in [&VERIFIED, &PEER] {
+        for side in BOTH {
             for work_len in sizes(&[n, 3 * n]) {
-                agree::find_extension(calls, &word, &answers, work_len, &mut random);
+                agree::find_extension(side, &word, &answers, work_len, &mut random);
                 let (entries, pieces) = (answers.icfl.len(), answers.icfl.len() / 2);
                 for pairs_len in sizes(&[entries, pieces, 2 * n]) {
-                    agree::icfl(calls, &word, &answers, work_len, pairs_len, &mut random);
+                    agree::icfl(side, &word, &answers, work_len, pairs_len, &mut random);
                 }
                 let short_and_enough = |needed: usize| [0, needed.saturating_sub(1), needed];
                 for pairs_len in short_and_enough(entries).into_iter().chain([pieces]) {
                     for breaks_len in short_and_enough(5 * answers.breaks.len()) {
-                        agree::icfl_with_breaks(calls, &word, &answers, [work_len, pairs_len, breaks_len], &mut random);
+                        agree::icfl_with_breaks(side, &word, &answers, [work_len, pairs_len, breaks_len], &mut random);
                     }
                 }
             }
             for len in sizes(&[answers.cfl_in.len(), n]) {
-                agree::cfl_in(calls, &word, &answers, len, &mut random);
-                agree::lyndon_table(calls, &word, &answers, len, &mut random);
+                agree::cfl_in(side, &word, &answers, len, &mut random);
+                agree::lyndon_table(side, &word, &answers, len, &mut random);
             }
             for len in sizes(&[3 * answers.runs.len(), n]) {
-                agree::runs(calls, &word, &answers, len, &mut random);
+                agree::runs(side, &word, &answers, len, &mut random);
             }
         }
     }
@@ -73,8 +73,8 @@ fn ranges_and_starts() {
             for &end in &places {
                 for &start in &places {
                     for &other in &places {
-                        for calls in [&VERIFIED, &PEER] {
-                            agree::compare_suffixes(calls, word.as_bytes(), [first, end], [start, other], &mut random);
+                        for side in BOTH {
+                            agree::compare_suffixes(side, word.as_bytes(), [first, end], [start, other], &mut random);
                         }
                     }
                 }
@@ -101,11 +101,11 @@ fn short_lists() {
         for list in (0..=6).flat_map(|count| all_words(5, count)) {
             let list: Vec<u16> = list.iter().map(|&letter| (letter - b'a') as u16).collect();
             let number = random.below(list.len() / 2 + 2);
-            for calls in [&VERIFIED, &PEER] {
+            for side in BOTH {
                 for number in [number, list.len() / 2, usize::MAX] {
-                    agree::factor_at(calls, &word, &list, number, &mut random);
+                    agree::factor_at(side, &word, &list, number, &mut random);
                 }
-                agree::summarize(calls, &word, &list, &mut random);
+                agree::summarize(side, &word, &list, &mut random);
             }
         }
     }
@@ -117,10 +117,10 @@ fn short_lists() {
 fn counts_and_odd_lists() {
     fn expect(word: &[u8], list: &[u16], refused: bool, random: &mut Random) {
         assert_eq!(promise::summarize(word.len(), list).err(), refused.then_some(7));
-        for calls in [&VERIFIED, &PEER] {
-            agree::summarize(calls, word, list, random);
+        for side in BOTH {
+            agree::summarize(side, word, list, random);
             for number in 0..=list.len() {
-                agree::factor_at(calls, word, list, number, random);
+                agree::factor_at(side, word, list, number, random);
             }
         }
     }

@@ -4,7 +4,7 @@ use metsroeb::Run;
 use metsroeb_tests::agree::{self, Answers};
 use metsroeb_tests::reference;
 use metsroeb_tests::words::{all_divisions, all_marked_words, all_words, with_counts, Random};
-use metsroeb_tests::{Calls, PEER, PEER_BY_EIGHTS, VERIFIED};
+use metsroeb_tests::{Side, BOTH, PEER, VERIFIED};
 
 fn short_words() -> impl Iterator<Item = Vec<u8>> {
     let two = (1..=9).flat_map(|length| all_words(2, length));
@@ -12,29 +12,29 @@ fn short_words() -> impl Iterator<Item = Vec<u8>> {
     two.chain(three).chain((1..=6).flat_map(|length| all_marked_words(3, length)))
 }
 
-fn all_calls(calls: &Calls) {
+fn all_calls(side: &Side) {
     let mut random = Random::new(0x5eed_0001);
     let mut count = 0;
     for word in short_words() {
         let (n, answers) = (word.len(), Answers::by_definition(&word));
         for work_len in [n - 1, n, n + 1] {
-            agree::find_extension(calls, &word, &answers, work_len, &mut random);
+            agree::find_extension(side, &word, &answers, work_len, &mut random);
         }
         for pairs_len in 0..=2 * n + 1 {
             for work_len in [3 * n - 1, 3 * n, 3 * n + 1] {
-                agree::icfl(calls, &word, &answers, work_len, pairs_len, &mut random);
+                agree::icfl(side, &word, &answers, work_len, pairs_len, &mut random);
                 let needed = 5 * answers.breaks.len();
                 for breaks_len in [0, needed.saturating_sub(1), needed, needed + 1, 5 * n] {
-                    agree::icfl_with_breaks(calls, &word, &answers, [work_len, pairs_len, breaks_len], &mut random);
+                    agree::icfl_with_breaks(side, &word, &answers, [work_len, pairs_len, breaks_len], &mut random);
                 }
             }
         }
         for ends_len in 0..=n + 1 {
-            agree::cfl_in(calls, &word, &answers, ends_len, &mut random);
-            agree::lyndon_table(calls, &word, &answers, ends_len, &mut random);
+            agree::cfl_in(side, &word, &answers, ends_len, &mut random);
+            agree::lyndon_table(side, &word, &answers, ends_len, &mut random);
         }
         for runs_len in 0..=3 * answers.runs.len() + 1 {
-            agree::runs(calls, &word, &answers, runs_len, &mut random);
+            agree::runs(side, &word, &answers, runs_len, &mut random);
         }
         count += 1;
     }
@@ -62,9 +62,9 @@ fn repetitions() {
     for word in two.chain(three).chain(marked) {
         let answers = Answers { runs: reference::runs(&word), ..Answers::NONE };
         let needed = 3 * answers.runs.len();
-        for calls in [&VERIFIED, &PEER, &PEER_BY_EIGHTS] {
+        for side in BOTH {
             for runs_len in [needed.saturating_sub(1), needed, needed + 1, 3 * word.len()] {
-                agree::runs(calls, &word, &answers, runs_len, &mut random);
+                agree::runs(side, &word, &answers, runs_len, &mut random);
             }
         }
     }
@@ -88,7 +88,7 @@ fn the_only_repetitions() {
 /// As published (Kolpakov and Kucherov): the most repetitions that a word of 5 to 15 letters over 2 has.
 #[test]
 fn the_most_repetitions() {
-    let count = |word: Vec<u8>| (VERIFIED.runs)(&word, &mut [0; 45]).unwrap().len();
+    let count = |word: Vec<u8>| VERIFIED.runs(&word, &mut [0; 45]).unwrap().len();
     let most: Vec<usize> = (5..=15).map(|length| all_words(2, length).map(count).max().unwrap()).collect();
     assert_eq!(most, [2, 3, 4, 5, 5, 6, 7, 8, 8, 10, 10]);
 }
@@ -120,10 +120,10 @@ fn reader_and_summary() {
         let word = vec![b'a'; length];
         for ends in all_divisions(length) {
             let list = with_counts(&ends, &mut random);
-            for calls in [&VERIFIED, &PEER] {
-                agree::summarize(calls, &word, &list, &mut random);
+            for side in BOTH {
+                agree::summarize(side, &word, &list, &mut random);
                 for number in 0..=ends.len() + 1 {
-                    agree::factor_at(calls, &word, &list, number, &mut random);
+                    agree::factor_at(side, &word, &list, number, &mut random);
                 }
             }
         }

@@ -7,10 +7,8 @@ pub enum Call {
     Breaks,
     Strict,
     Starts,
-    Repetitions,
     Compare,
     Common,
     Part,
     Summary,
-    Batch,
 }

@@ -12,9 +12,6 @@ pub const BREAK_ENTRIES: usize = 5 * ENTRIES;
 /// Room for its pairs, two entries each.
 pub const PAIR_ENTRIES: usize = 2 * ENTRIES;
 
-/// Room for its maximal repetitions, three entries each, which are fewer than its letters.
-pub const RUN_ENTRIES: usize = 3 * ENTRIES;
-
 fn wide(x: u16) -> usize {
     x as usize
 }

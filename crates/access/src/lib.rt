@@ -1,18 +1,14 @@
-//! Letters, entries and parts at a place, each defined for all arguments, and the calls by name: what the second implementation, the records that it is
-//! tried on and the trials share.
+//! Letters, entries and parts at a place, each defined for all arguments, and the calls by name: what the second
+//! implementation, the records that it is tried on and the trials share.
 mod entries; // letters and entries, sums and differences
 mod parts; // the parts that a paired list marks, and their summary
 mod pairing; // paired lists made of lists of ends
-mod cards; // where the records of a card stand
 mod calls; // the calls by name
 
 pub use calls::Call;
-pub use cards::record_end;
-pub use cards::record_start;
 pub use entries::BREAK_ENTRIES;
 pub use entries::ENTRIES;
 pub use entries::PAIR_ENTRIES;
-pub use entries::RUN_ENTRIES;
 pub use entries::SEPARATOR;
 pub use entries::entry;
 pub use entries::front;

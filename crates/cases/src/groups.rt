@@ -1,7 +1,7 @@
 //! The groups of records, and the calls that are made on each.
 use access::BREAK_ENTRIES;
 use access::Call;
-use access::RUN_ENTRIES;
+use access::PAIR_ENTRIES;
 use access::front;
 use access::pair_with_ones;
 use access::plus;
@@ -26,11 +26,14 @@ pub enum Group {
     Random { most: usize },
     /// Sixteen shapes, half of them with marks, of 4,095, 4,096 and 4,097 letters; all calls.
     Long,
-    /// The same shapes of each length at the boundaries; the calls that are lent buffers, at the boundaries of the refusals 1 to 4, and of 9 after 3.
+    /// The same shapes of each length at the boundaries; the calls that are lent buffers, at the boundaries of the
+    /// refusals 1 to 4, and of 9 after 3.
     Lent,
-    /// Two records of each length at the boundaries, one with marks; the comparison, at the boundaries of range and starts.
+    /// Two records of each length at the boundaries, one with marks; the comparison, at the boundaries of range and
+    /// starts.
     Ranges,
-    /// Fifty equal letters but one, at each place, and one that is larger still 26 places on; two short words in them, alone.
+    /// Fifty equal letters but one, at each place, and one that is larger still 26 places on; two short words in them,
+    /// alone.
     Differences,
     /// A record of each length at the boundaries; the reader and the summary, on lists with faults.
     Lists,
@@ -80,9 +83,9 @@ fn on_pieces(word: &[u8], pairs: &[u16], run: &mut Run) {
 
 // The first cases of one call, and what goes by the parts that it gives.
 fn on_call(call: Call, limits: bool, many: usize, word: &[u8], run: &mut Run) {
-    let mut list = [0u16; RUN_ENTRIES];
+    let mut list = [0u16; PAIR_ENTRIES];
     let mut breaks = [0u16; BREAK_ENTRIES];
-    let found = naive::answer(call, word, &mut list, &mut breaks);
+    let found = naive::answer(call, word, false, &mut list, &mut breaks);
     try_cases(
         call,
         limits,
@@ -106,7 +109,6 @@ fn on_call(call: Call, limits: bool, many: usize, word: &[u8], run: &mut Run) {
 fn on_record(word: &[u8], run: &mut Run) {
     on_call(Call::Test, false, 1, word, run);
     on_call(Call::Starts, false, 1, word, run);
-    on_call(Call::Repetitions, false, 1, word, run);
     on_call(Call::Strict, false, 1, word, run);
     on_call(Call::Pieces, false, 1, word, run);
     on_call(Call::Breaks, false, 1, word, run);
@@ -119,7 +121,6 @@ fn on_lent(word: &[u8], run: &mut Run) {
     on_call(Call::Breaks, true, 64, word, run);
     on_call(Call::Strict, true, 4, word, run);
     on_call(Call::Starts, true, 4, word, run);
-    on_call(Call::Repetitions, true, 4, word, run);
 }
 
 // The calls of a group.

@@ -1,10 +1,9 @@
-//! Runs the calls on many records and compares what they answer, and every entry of the buffers that they are lent, with the second implementation of
-//! `naive`: prints for each call on how many inputs the two agreed and disagreed, then the same for inputs at the boundaries of the refusals.
-mod batches; // cards of records
+//! Runs the calls on many records and compares what they answer, and every entry of the buffers that they are lent,
+//! with the second implementation of `naive`: prints for each call on how many inputs the two agreed and disagreed,
+//! then the same for inputs at the boundaries of the refusals.
 mod groups; // the groups of records, and the calls that are made on each
 mod printing; // the lines that are printed
 
-use batches::try_batches;
 use groups::Group;
 use groups::try_group;
 use samples::Run;
@@ -22,8 +21,6 @@ fn main() {
     try_group(Group::Lent, 112, &mut run);
     try_group(Group::Ranges, 14, &mut run);
     try_group(Group::Lists, 7, &mut run);
-    try_batches(300, 2500, &mut run);
-    try_batches(8200, 30, &mut run);
     try_group(Group::Differences, 50, &mut run);
     printing::print_all(&run);
 }

@@ -1,4 +1,5 @@
-//! The lines of the program: for each call on how many inputs it agreed with the second implementation, and on how many not.
+//! The lines of the program: for each call on how many inputs it agreed with the second implementation, and on how many
+//! not.
 use access::Call;
 use access::plus;
 use libc::STDOUT_FILENO;
@@ -30,10 +31,8 @@ fn print_lent(limits: bool, run: &Run) {
     print_line(b"find_extension", Call::Test, limits, run);
     print_line(b"icfl", Call::Pieces, limits, run);
     print_line(b"icfl_with_breaks", Call::Breaks, limits, run);
-    print_line(b"icfl_batch", Call::Batch, limits, run);
     print_line(b"cfl_in", Call::Strict, limits, run);
     print_line(b"lyndon_table", Call::Starts, limits, run);
-    print_line(b"runs", Call::Repetitions, limits, run);
 }
 
 // The lines of the other calls.

@@ -1,4 +1,5 @@
-//! What request 105 says of cards: the pieces of each record within it, or its refusal, and how many places hold a result of 0.
+//! What request 105 says of cards: the pieces of each record within it, or its refusal, and how many places hold a
+//! result of 0.
 use super::printing::print_pieces;
 use super::printing::print_refusal;
 use access::plus;
@@ -66,8 +67,9 @@ fn print_batch(name: &[u8], bytes: &[u8], record_ends: &[u32], pairs: &mut [u16]
     io::write_all(STDOUT_FILENO, b"\n");
 }
 
-/// The records A to K on one card, with as many entries as they need, and with one fewer; an empty record, and one with too little left before a shorter
-/// one that fits; no bytes; and lists that are refused: falling, one that ends far after the bytes, and 65 ends.
+/// The records A to K on one card, with as many entries as they need, and with one fewer; an empty record, and one with
+/// too little left before a shorter one that fits; no bytes; and lists that are refused: falling, one that ends far
+/// after the bytes, and 65 ends.
 pub fn print_batches() {
     let papers = b"aaaaabbaabcbababbabbabbbcbabacbaccbabacaacbabacbacdabadabdabdadacdabdadacddbdc";
     let papers_ends = [1u32, 4, 6, 8, 11, 15, 24, 33, 50, 65, 78];

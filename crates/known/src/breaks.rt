@@ -22,7 +22,8 @@ pub fn print_reasons(name: &[u8], word: &[u8], pairs: &mut [u16], list: &mut [u1
     io::write_all(STDOUT_FILENO, b"\n");
 }
 
-/// The breaks of a shortest record that joins with nothing to spare, of one with a join inside another, and of a falling one.
+/// The breaks of a shortest record that joins with nothing to spare, of one with a join inside another, and of a
+/// falling one.
 pub fn print_joins() {
     let mut four = [0u16; 4];
     let mut list = [0u16; 15];

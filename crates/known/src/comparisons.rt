@@ -1,4 +1,5 @@
-//! What paper 01 and the requests 104 and 106 say of two starts in a range: the sign, and how many leading letters are equal.
+//! What paper 01 and the requests 104 and 106 say of two starts in a range: the sign, and how many leading letters are
+//! equal.
 use super::printing::print_refusal;
 use compare::Comparison;
 use libc::STDOUT_FILENO;
@@ -50,7 +51,8 @@ fn print_letters() {
     print_comparison(b"bba over 0 to 3, 0 and 1: ", b"bba", 0, 3, 0, 1);
 }
 
-// Differences about the eighth letter, one with another behind it; and ranges behind whose end the starts go on agreeing, or differ.
+// Differences about the eighth letter, one with another behind it; and ranges behind whose end the starts go on
+// agreeing, or differ.
 fn print_eights() {
     let word = b"bbbbbbbbbabbbbbbbbba";
     print_comparison(b"(b^9 a)^2 over 0 to 20, 0 and 3: ", word, 0, 20, 0, 3);

@@ -1,5 +1,5 @@
-//! What paper 01 and request 108 say of lists for record H: the parts that the reader gives by each number from 0 to 3, and the summary's count, longest
-//! and from.
+//! What paper 01 and request 108 say of lists for record H: the parts that the reader gives by each number from 0 to 3,
+//! and the summary's count, longest and from.
 use super::printing::print_list;
 use super::printing::print_refusal;
 use libc::STDOUT_FILENO;
@@ -35,8 +35,8 @@ fn print_parts(name: &[u8], pairs: &[u16]) {
     io::write_all(STDOUT_FILENO, b"\n");
 }
 
-/// The piece cut's pairs, counts that are the parts' lengths, and other parts; then lists that are refused: a count above its part's length, a count of 0,
-/// one entry too few or too many, ends without counts, and no entry.
+/// The piece cut's pairs, counts that are the parts' lengths, and other parts; then lists that are refused: a count
+/// above its part's length, a count of 0, one entry too few or too many, ends without counts, and no entry.
 pub fn print_lists() {
     print_parts(b"H by 5:1,9:2: ", &[5, 1, 9, 2]);
     print_parts(b"H by 5:5,9:4: ", &[5, 5, 9, 4]);

@@ -1,5 +1,5 @@
-//! Prints what paper 01 and the requests say of single records, as the calls answer it. The numbers that must come are the papers', and stand in `stdout`;
-//! the file `args` has the records A to K.
+//! Prints what paper 01 and the requests say of single records, as the calls answer it. The numbers that must come are
+//! the papers', and stand in `stdout`; the file `args` has the records A to K.
 mod batches; // cards of records
 mod breaks; // the piece cut with its breaks
 mod comparisons; // two starts: the sign, and how far they agree
@@ -89,8 +89,8 @@ fn print_room() {
     io::write_all(STDOUT_FILENO, b"\n");
 }
 
-// The table, what is said of H and I and of ranges, breaks, marks, cards, repetitions and lists, and the refusals of a record with a mark, at the greatest
-// length and one above it.
+// The table, what is said of H and I and of ranges, breaks, marks, cards, repetitions and lists, and the refusals of a
+// record with a mark, at the greatest length and one above it.
 fn main() {
     print_table();
     print_starts();

@@ -1,4 +1,5 @@
-//! What request 103 says of records with marks, bytes 255: both cuts and the start table, the breaks, and the test, which refuses them.
+//! What request 103 says of records with marks, bytes 255: both cuts and the start table, the breaks, and the test,
+//! which refuses them.
 use super::breaks::print_reasons;
 use super::printing::print_answer;
 use super::printing::print_list;
@@ -33,7 +34,8 @@ fn print_test(name: &[u8], word: &[u8], work: &mut [u16]) {
     io::write_all(STDOUT_FILENO, b"\n");
 }
 
-/// Marks at the front, between, at the end and in a row; two of record I with a mark between them; the test with work entries enough, and with one too few.
+/// Marks at the front, between, at the end and in a row; two of record I with a mark between them; the test with work
+/// entries enough, and with one too few.
 pub fn print_marks() {
     print_cuts(b"Two marks, a: ", b"\xff\xffa");
     print_cuts(b"ba, a mark, ba: ", b"ba\xffba");

@@ -24,7 +24,8 @@ fn refusal_beside(word: &[u8], work: &mut [u16], pairs: &mut [u16]) -> u16 {
     }
 }
 
-// The same of the calls that are lent buffers: the test, the piece cut alone and with its breaks, the strict cut, the start table, the repetitions.
+// The same of the calls that are lent buffers: the test, the piece cut alone and with its breaks, the strict cut, the
+// start table, the repetitions.
 fn print_lent_refusals(word: &[u8]) {
     let mut work = [0u16; 3 * MOST];
     let mut list = [0u16; MOST];
@@ -40,7 +41,8 @@ fn print_lent_refusals(word: &[u8]) {
     print_list(&[tested, pieces, broken, strict, starts, repeated]);
 }
 
-/// The refusal's number of every call, 0 for a result: of those that are lent buffers, then of comparison, reader and summary.
+/// The refusal's number of every call, 0 for a result: of those that are lent buffers, then of comparison, reader and
+/// summary.
 pub fn print_refusals(name: &[u8], word: &[u8], pairs: &[u16]) {
     let compared = match compare::compare_suffixes(word, 0, word.len(), 0, 0) {
         Comparison::Refused(number) => number,

@@ -17,8 +17,8 @@ fn print_runs(name: &[u8], word: &[u8], list: &mut [u16]) {
     io::write_all(STDOUT_FILENO, b"\n");
 }
 
-/// The request's record, with as many entries lent as it needs, and with one fewer; a Fibonacci word; equal letters; marks; a record with none, and an
-/// empty one, lent no entry.
+/// The request's record, with as many entries lent as it needs, and with one fewer; a Fibonacci word; equal letters;
+/// marks; a record with none, and an empty one, lent no entry.
 pub fn print_repetitions() {
     let mut twelve = [0u16; 12];
     let mut eleven = [0u16; 11];

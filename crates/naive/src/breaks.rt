@@ -1,9 +1,9 @@
-//! The breaks of the piece cut by paper 01's sentences: the test of what is left gives p and r, then what follows p is cut as a word by itself, and the
-//! length of its first piece against |r| says whether it is joined. A break has five entries: the place where p ends, the place where the step began,
-//! |r|; then a and b where p stands as a piece, 256 and |r| less the joined piece's length where it does not.
+//! The breaks of the piece cut by paper 01's sentences: the test of what is left gives p and r, then what follows p is
+//! cut as a word by itself, and the length of its first piece against |r| says whether it is joined. A break has five
+//! entries: the place where p ends, the place where the step began, |r|; then a and b where p stands as a piece, 256
+//! and |r| less the joined piece's length where it does not.
 use super::extension::border;
-use super::extension::failing_by_trial;
-use super::extension::failing_length;
+use super::extension::failing;
 use super::fold::pieces_by_fold;
 use super::pieces::pieces_by_definition;
 use access::ENTRIES;
@@ -14,16 +14,8 @@ use access::plus;
 use access::store;
 use access::tail;
 
-// L of a word, 0 if it is inverse Lyndon: by the definition, or in the faster way.
-fn failing(word: &[u8], defined: bool) -> usize {
-    if defined {
-        return failing_by_trial(word);
-    }
-    failing_length(word)
-}
-
-// Writes the ends of the pieces of a word: by the definition, or by the fold. Answers their number.
-fn cut(word: &[u8], defined: bool, ends: &mut [u16]) -> usize {
+/// Writes the ends of the pieces of a word: by the definition (`defined`), or by the fold. Answers their number.
+pub fn cut(word: &[u8], defined: bool, ends: &mut [u16]) -> usize {
     if defined {
         return pieces_by_definition(word, ends);
     }
@@ -37,7 +29,8 @@ fn first_length(word: &[u8], defined: bool) -> usize {
     entry(&ends, 0)
 }
 
-// Writes a break from entry `at` on: its step begins at `begun`, and the first l letters from there are r a u r b. Answers the place where p ends.
+// Writes a break from entry `at` on: its step begins at `begun`, and the first l letters from there are r a u r b.
+// Answers the place where p ends.
 fn write_break(
     word: &[u8],
     begun: usize,
@@ -61,7 +54,8 @@ fn write_break(
     plus(begun, p)
 }
 
-/// Writes the breaks, each rest tested and cut by the definitions (`defined`) or in the faster ways. Answers how many entries they have.
+/// Writes the breaks, each rest tested and cut by the definitions (`defined`) or in the faster ways. Answers how many
+/// entries they have.
 pub fn write_breaks(word: &[u8], defined: bool, list: &mut [u16]) -> usize {
     let mut begun: usize = 0;
     let mut count: usize = 0;

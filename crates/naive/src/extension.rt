@@ -1,12 +1,14 @@
-//! The test by the definitions: every suffix is compared, every length is tried.
+//! The test: by the definitions every suffix is compared, and every length tried; in the faster way the suffixes are
+//! gone through once.
 use super::order::agreeing;
 use super::order::natural_less;
 use access::letter;
 use access::minus;
 use access::plus;
 
-/// Whether the first n letters are an inverse Lyndon word: nonempty, and greater in the natural order than each proper suffix.
-pub fn is_inverse_lyndon(word: &[u8], n: usize) -> bool {
+// Whether the first n letters are an inverse Lyndon word: nonempty, and greater in the natural order than each proper
+// suffix.
+fn is_inverse_lyndon(word: &[u8], n: usize) -> bool {
     let mut j: usize = 1;
     while j < n {
         if !natural_less(word, n, j, 0) {
@@ -17,8 +19,8 @@ pub fn is_inverse_lyndon(word: &[u8], n: usize) -> bool {
     0 < n
 }
 
-/// The length of the shortest prefix that is not inverse Lyndon, trying every length; 0 if there is none.
-pub fn failing_by_trial(word: &[u8]) -> usize {
+// The length of the shortest prefix that is not inverse Lyndon, trying every length; 0 if there is none.
+fn failing_by_trial(word: &[u8]) -> usize {
     let mut n: usize = 0;
     while n < word.len() {
         n += 1;
@@ -29,7 +31,8 @@ pub fn failing_by_trial(word: &[u8]) -> usize {
     0
 }
 
-// The length of the shortest prefix that its suffix from j exceeds: up to the first place where the letters differ; 0 if there is none.
+// The length of the shortest prefix that its suffix from j exceeds: up to the first place where the letters differ; 0
+// if there is none.
 fn failing_at(word: &[u8], j: usize) -> usize {
     let k = agreeing(word, word.len(), 0, j);
     let at = plus(j, k);
@@ -67,6 +70,14 @@ pub fn failing_length(word: &[u8]) -> usize {
         j += 1;
     }
     found
+}
+
+/// L of a word, 0 if it is inverse Lyndon: by the definition (`defined`), or in the faster way.
+pub fn failing(word: &[u8], defined: bool) -> usize {
+    if defined {
+        return failing_by_trial(word);
+    }
+    failing_length(word)
 }
 
 // Whether the first n letters are r a u r b with |r| = k and a less than b.

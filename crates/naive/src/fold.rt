@@ -1,5 +1,5 @@
-//! The piece cut as a fold over the strict cut, from the last factor to the first: a factor is a piece of its own where it is less than the first
-//! piece of what follows at a letter that both have; otherwise it is joined to that piece.
+//! The piece cut as a fold over the strict cut, from the last factor to the first: a factor is a piece of its own where
+//! it is less than the first piece of what follows at a letter that both have; otherwise it is joined to that piece.
 use super::suffixes::strict_by_suffixes;
 use access::ENTRIES;
 use access::entry;

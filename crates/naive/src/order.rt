@@ -1,5 +1,5 @@
-//! The two orders, letter by letter, on the parts of a word from a start to a common end. The comparison of two such parts, and of two words by their
-//! longest common prefix.
+//! The two orders, letter by letter, on the parts of a word from a start to a common end. The comparison of two such
+//! parts, and of two words by their longest common prefix.
 use access::letter;
 use access::plus;
 

@@ -1,4 +1,5 @@
-//! Paper 01's table of refusals, with the lines that requests add. Each function gives the number of the first line that is met, 0 for none.
+//! Paper 01's table of refusals, with the lines that requests add. Each function gives the number of the first line
+//! that is met, 0 for none.
 use super::calls::Room;
 use super::stretches::refuses_separator;
 use access::Call;
@@ -34,13 +35,15 @@ pub fn range_refusal(n: usize, first: usize, end: usize, start: usize, other: us
     record_lines(n, line(end <= first || n < end, 5, line(outside, 6, 0)))
 }
 
-// Whether part k is at fault: its end is not above the one before, or for the first part not above 0; or its count is 0 or above its length.
+// Whether part k is at fault: its end is not above the one before, or for the first part not above 0; or its count is 0
+// or above its length.
 fn is_no_part(pairs: &[u16], k: usize) -> bool {
     let count = part_count(pairs, k);
     part_end(pairs, k) <= part_start(pairs, k) || count == 0 || part_length(pairs, k) < count
 }
 
-// Whether line 7 is met: the list is empty or has an odd number of entries, a part is at fault, or the last end is not n.
+// Whether line 7 is met: the list is empty or has an odd number of entries, a part is at fault, or the last end is not
+// n.
 fn is_no_list(pairs: &[u16], n: usize) -> bool {
     let mut k: usize = 0;
     while k < pairs.len() / 2 {

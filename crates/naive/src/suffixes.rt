@@ -1,5 +1,5 @@
-//! The strict cut and the start table by suffixes of the whole word: a longest anti-Lyndon word ends where the next suffix begins that comes before
-//! the suffix at its start.
+//! The strict cut and the start table by suffixes of the whole word: a longest anti-Lyndon word ends where the next
+//! suffix begins that comes before the suffix at its start.
 use super::order::inverse_before;
 use access::ENTRIES;
 use access::entry;
@@ -7,7 +7,8 @@ use access::minus;
 use access::plus;
 use access::store;
 
-/// Writes the ends of the strict cut: the starts of the suffixes that come before all longer ones, and the length. Answers their number.
+/// Writes the ends of the strict cut: the starts of the suffixes that come before all longer ones, and the length.
+/// Answers their number.
 pub fn strict_by_suffixes(word: &[u8], ends: &mut [u16]) -> usize {
     let n = word.len();
     let mut count: usize = 0;
@@ -34,7 +35,8 @@ fn rests(word: &[u8], lengths: &mut [u16]) {
     }
 }
 
-// Takes from the stack of open places those that the suffix at i comes before, and writes their lengths. Answers how many places stay open.
+// Takes from the stack of open places those that the suffix at i comes before, and writes their lengths. Answers how
+// many places stay open.
 fn settle(word: &[u8], lengths: &mut [u16], stack: &[u16], open: usize, i: usize) -> usize {
     let mut left = open;
     while 0 < left {

@@ -86,7 +86,8 @@ pub fn random_marks(run: &mut Run) -> Marks {
     }
 }
 
-/// The word of a number in the list of all words, as `spell` has it, with a mark as the last of so many letters. Answers its length.
+/// The word of a number in the list of all words, as `spell` has it, with a mark as the last of so many letters.
+/// Answers its length.
 pub fn spell_with_marks(word: &mut [u8], letters: usize, number: usize, run: &mut Run) -> usize {
     let n = spell(word, letters, number);
     put_marks(

@@ -10,8 +10,8 @@ use access::set_count;
 use access::store;
 use access::store_three;
 
-/// Eight numbers about a and b: one above a, then 0, one below b, b, one above it, the largest number, a, and one below it. Each use takes neighbours of
-/// this order.
+/// Eight numbers about a and b: one above a, then 0, one below b, b, one above it, the largest number, a, and one below
+/// it. Each use takes neighbours of this order.
 pub fn about(a: usize, b: usize, which: usize) -> usize {
     match which {
         0 => plus(a, 1),
@@ -43,8 +43,8 @@ fn short_list(list: &mut [u16], n: usize, number: usize) -> usize {
     count
 }
 
-// Writes a list of ends, with or without faults: first the short ones, then all places, and these with the last end or one in the middle raised to the
-// next. Answers how many there are.
+// Writes a list of ends, with or without faults: first the short ones, then all places, and these with the last end or
+// one in the middle raised to the next. Answers how many there are.
 fn write_ends(list: &mut [u16], n: usize, number: usize) -> usize {
     let at = match number {
         585 => n,
@@ -60,8 +60,8 @@ fn write_ends(list: &mut [u16], n: usize, number: usize) -> usize {
 /// How many paired lists there are for a record: 588 lists of ends, five times.
 pub const LISTS: usize = 2940;
 
-/// Writes a paired list for a record of n letters, with or without faults. The counts are 1, but the one in the middle may be 0, its part's length or one
-/// above it, or the last may be left out. Answers how many entries it has.
+/// Writes a paired list for a record of n letters, with or without faults. The counts are 1, but the one in the middle
+/// may be 0, its part's length or one above it, or the last may be left out. Answers how many entries it has.
 pub fn write_list(pairs: &mut [u16], n: usize, number: usize) -> usize {
     let count = write_ends(pairs, n, number / 5);
     let entries = pair_with_ones(pairs, count);

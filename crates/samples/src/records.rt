@@ -45,7 +45,8 @@ fn random_shape(kind: usize, n: usize, letters: usize, run: &mut Run) -> Shape {
     }
 }
 
-// A pseudo-random record of 1 to `most` letters, before marks are put into it; of the periodic ones some have one new letter.
+// A pseudo-random record of 1 to `most` letters, before marks are put into it; of the periodic ones some have one new
+// letter.
 fn random_letters(word: &mut [u8], most: usize, run: &mut Run) -> usize {
     let n = plus(1, draw(run, most));
     let letters = alphabet(run);
@@ -67,7 +68,8 @@ pub fn random_record(word: &mut [u8], most: usize, run: &mut Run) -> usize {
     n
 }
 
-// One of eight shapes, none with a mark: all equal, random over 2 and over 255 letters, rising, falling, c^k a c^k b, plateaus, periodic.
+// One of eight shapes, none with a mark: all equal, random over 2 and over 255 letters, rising, falling, c^k a c^k b,
+// plateaus, periodic.
 fn shape_at(which: usize, n: usize) -> Shape {
     match which {
         0 => Shape::Periodic {
@@ -106,7 +108,8 @@ fn length_at(which: usize) -> usize {
     }
 }
 
-/// One of sixteen shapes of a length at the boundaries, each by its number: eight without marks, then the same with marks of a kind each.
+/// One of sixteen shapes of a length at the boundaries, each by its number: eight without marks, then the same with
+/// marks of a kind each.
 pub fn shaped_record(word: &mut [u8], length: usize, shape: usize, run: &mut Run) -> usize {
     let n = length_at(length);
     let marks = if shape < 8 {

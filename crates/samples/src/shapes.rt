@@ -22,7 +22,8 @@ pub enum Shape {
     Joins,
 }
 
-/// The word of a number in the list of all words over a, b, .. by length: 1 is a, and the digits are those of the bijective numeration. Answers its length.
+/// The word of a number in the list of all words over a, b, .. by length: 1 is a, and the digits are those of the
+/// bijective numeration. Answers its length.
 pub fn spell(word: &mut [u8], letters: usize, number: usize) -> usize {
     if letters == 0 {
         return 0;

@@ -133,8 +133,8 @@ fn words_are_right(x: &[u8], y: &[u8]) -> bool {
 /// How many cases there are of two words: 4 of parts at random, and 25 by 25 of short ones.
 pub const WORDS: usize = 629;
 
-/// How far two parts at random agree, and how they compare; from case 2 on both begin at one place. From case 4 on they begin at places 0 and 25, and have
-/// each pair of lengths up to 24.
+/// How far two parts at random agree, and how they compare; from case 2 on both begin at one place. From case 4 on they
+/// begin at places 0 and 25, and have each pair of lengths up to 24.
 pub fn words_agree(word: &[u8], code: usize, run: &mut Run) -> bool {
     if 4 <= code {
         let short = code - 4;

@@ -38,8 +38,9 @@ fn agrees(
     }
 }
 
-/// The first `many` cases of a call, at the boundaries of its refusals or not. The list is what a call that is lent buffers should answer, beside it the
-/// breaks, where it gives them; or the pairs that comparison, reader and summary go by.
+/// The first `many` cases of a call, at the boundaries of its refusals or not. The list is what a call that is lent
+/// buffers should answer, beside it the breaks, where it gives them; or the pairs that comparison, reader and summary
+/// go by.
 pub fn try_cases(
     call: Call,
     limits: bool,

@@ -1,9 +1,9 @@
-//! The calls that are lent buffers, with every entry of these: the test, the piece cut alone and with its breaks, the strict cut, the start table, the
-//! maximal repetitions.
+//! The calls that are lent buffers, with every entry of these: the test, the piece cut alone and with its breaks, the
+//! strict cut, the start table.
 use access::BREAK_ENTRIES;
 use access::Call;
 use access::ENTRIES;
-use access::RUN_ENTRIES;
+use access::PAIR_ENTRIES;
 use access::front;
 use access::plus;
 use access::store_three;
@@ -23,9 +23,6 @@ const SALT: usize = 40000;
 
 // Records up to this length go by the definitions too; longer ones by the faster second ways alone.
 const SHORT: usize = 300;
-
-// The same for the repetitions, whose definition tries every part of the record; each has three entries.
-const SHORTER: usize = SHORT / 3;
 
 // The test, its answer written as a list like that of the second implementation.
 fn test(word: &[u8], work: &mut [u16], list: &mut [u16]) -> Counted {
@@ -64,7 +61,6 @@ fn call_with(
         Call::Pieces => unbroken(icfl::icfl(word, work, list)),
         Call::Breaks => icfl_breaks::icfl_with_breaks(word, work, list, breaks),
         Call::Strict => unbroken(cfl::cfl_in(word, list)),
-        Call::Repetitions => unbroken(runs::runs(word, list)),
         _ => unbroken(table::lyndon_table(word, list)),
     }
 }
@@ -93,11 +89,10 @@ fn lend(
     )
 }
 
-// What a call answers for a list of so many entries: a piece has two, a repetition three.
+// What a call answers for a list of so many entries: a piece has two.
 fn counted(call: Call, entries: usize) -> usize {
     match call {
         Call::Pieces | Call::Breaks => entries / 2,
-        Call::Repetitions => entries / 3,
         _ => entries,
     }
 }
@@ -126,10 +121,11 @@ fn written(refused: u8, want: &[u16]) -> &[u16] {
     front(want, if refused == 0 { want.len() } else { 0 })
 }
 
-// Whether the call, lent so many entries, does as the second implementation says: its answer, and every entry of the buffers.
+// Whether the call, lent so many entries, does as the second implementation says: its answer, and every entry of the
+// buffers.
 fn lent_is(call: Call, word: &[u8], lent: Room, want: &[u16], want_breaks: &[u16]) -> bool {
     let mut work = [0u16; 3 * ENTRIES];
-    let mut list = [0u16; RUN_ENTRIES];
+    let mut list = [0u16; PAIR_ENTRIES];
     let mut breaks = [0u16; BREAK_ENTRIES];
     fill(&mut work, WORK_SALT);
     fill(&mut list, SALT);
@@ -150,16 +146,12 @@ fn is_list(list: &[u16], count: usize, want: &[u16]) -> bool {
 
 // Whether the definitions give the same lists, for a short record.
 fn is_defined(call: Call, word: &[u8], want: &[u16], want_breaks: &[u16]) -> bool {
-    let most = match call {
-        Call::Repetitions => SHORTER,
-        _ => SHORT,
-    };
-    if most < word.len() {
+    if SHORT < word.len() {
         return true;
     }
     let mut list = [0u16; 2 * SHORT];
     let mut breaks = [0u16; 5 * SHORT];
-    let found = naive::answer_by_definition(call, word, &mut list, &mut breaks);
+    let found = naive::answer(call, word, true, &mut list, &mut breaks);
     is_list(&list, found.list, want) & is_list(&breaks, found.breaks, want_breaks)
 }
 
@@ -180,7 +172,8 @@ fn limit(needed: usize, code: usize) -> usize {
     about(0, needed, code % 4 + 1)
 }
 
-/// Case `code` at the boundaries of the buffers' lengths: 4 where one buffer is lent, 16 for the piece cut, 64 with its breaks.
+/// Case `code` at the boundaries of the buffers' lengths: 4 where one buffer is lent, 16 for the piece cut, 64 with its
+/// breaks.
 pub fn agrees_at_limits(
     call: Call,
     word: &[u8],

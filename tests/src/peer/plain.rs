@@ -1,6 +1,5 @@
-//! The algorithms, with the library's checks, passes and buffers.
+//! The test, the cuts and the start table, with the library's checks, passes and buffers.
 use super::raw::{Batch, Reply};
-use super::Extension;
 use metsroeb::{MOST, MOST_RECORDS};
 
 /// A mark is a factor of every cut by itself. It is larger than every other letter, so a scan that does not begin with one ends
@@ -53,15 +52,16 @@ fn scan(word: &[u8], table: &mut [u16]) -> Scanned {
     Scanned::Falling { length }
 }
 
-pub fn find_extension(record: &[u8], work: &mut [u16]) -> Result<Extension, u8> {
+/// L, |p| and |r|, or 0 for each.
+pub fn find_extension(record: &[u8], work: &mut [u16]) -> Result<(u16, u16, u16), u8> {
     check_record(record)?;
     let Some(work) = work.get_mut(..record.len()) else { return Err(3) };
     if record.contains(&SEPARATOR) {
         return Err(9);
     }
     let found = match scan(record, work) {
-        Scanned::Break { prefix, border } => Extension::Failing { failing: prefix + border + 1, prefix, border },
-        Scanned::Falling { .. } => Extension::InverseLyndon,
+        Scanned::Break { prefix, border } => ((prefix + border + 1) as u16, prefix as u16, border as u16),
+        Scanned::Falling { .. } => (0, 0, 0),
     };
     work.fill(0);
     Ok(found)
@@ -118,14 +118,14 @@ fn write_pairs(record: &[u8], ends: &[u16], result: &mut [[u16; 2]]) {
 }
 
 /// Gives the number of pieces.
-pub fn icfl(record: &[u8], work: &mut [u16], pairs: &mut [u16]) -> Result<usize, u8> {
+pub fn icfl(record: &[u8], work: &mut [u16], pairs: &mut [u16]) -> Result<(u16,), u8> {
     check_record(record)?;
     let Some(work) = work.get_mut(..3 * record.len()) else { return Err(3) };
     let (found, _) = cut(record, work);
     let answer = match pairs.get_mut(..2 * found.len()) {
         Some(pairs) => {
             write_pairs(record, found, pairs.as_chunks_mut().0);
-            Ok(found.len())
+            Ok((found.len() as u16,))
         }
         None => Err(4),
     };
@@ -144,9 +144,9 @@ pub fn icfl_batch(bytes: &[u8], record_ends: &[u32], work: &mut [u16], pairs: &m
     for (reply, &end) in batch.replies.iter_mut().zip(record_ends) {
         let end = end as usize;
         match icfl(&bytes[from..end], work, &mut pairs[used..]) {
-            Ok(count) => {
-                reply.count = count as u16;
-                used += 2 * count;
+            Ok((count,)) => {
+                reply.count = count;
+                used += 2 * count as usize;
             }
             Err(no) => reply.refusal = no,
         }
@@ -175,7 +175,8 @@ fn write_breaks(record: &[u8], ends: &[u16], breaks: &[[u16; 2]], result: &mut [
     }
 }
 
-pub fn icfl_with_breaks(record: &[u8], work: &mut [u16], pairs: &mut [u16], breaks: &mut [u16]) -> Result<(usize, usize), u8> {
+/// Gives the numbers of pieces and of breaks.
+pub fn icfl_with_breaks(record: &[u8], work: &mut [u16], pairs: &mut [u16], breaks: &mut [u16]) -> Result<(u16, u16), u8> {
     check_record(record)?;
     let Some(work) = work.get_mut(..3 * record.len()) else { return Err(3) };
     let (found, considered) = cut(record, work);
@@ -183,7 +184,7 @@ pub fn icfl_with_breaks(record: &[u8], work: &mut [u16], pairs: &mut [u16], brea
         (Some(pairs), Some(breaks)) => {
             write_pairs(record, found, pairs.as_chunks_mut().0);
             write_breaks(record, found, considered, breaks.as_chunks_mut().0);
-            Ok((found.len(), considered.len()))
+            Ok((found.len() as u16, considered.len() as u16))
         }
         _ => Err(4),
     };
@@ -212,7 +213,7 @@ fn duval(word: &[u8], mut emit: impl FnMut(usize)) {
     }
 }
 
-pub fn cfl_in(record: &[u8], ends: &mut [u16]) -> Result<usize, u8> {
+pub fn cfl_in(record: &[u8], ends: &mut [u16]) -> Result<(u16,), u8> {
     check_record(record)?;
     if ends.len() < record.len() {
         let mut needed = 0;
@@ -226,7 +227,7 @@ pub fn cfl_in(record: &[u8], ends: &mut [u16]) -> Result<usize, u8> {
         ends[count] = end as u16;
         count += 1;
     });
-    Ok(count)
+    Ok((count as u16,))
 }
 
 fn comes_before(u: &[u8], v: &[u8]) -> bool {
@@ -238,7 +239,7 @@ fn comes_before(u: &[u8], v: &[u8]) -> bool {
 
 /// From right to left, a place's word takes the words after it as long as it comes before them; a mark takes none, and is taken
 /// by none.
-pub fn lyndon_table(record: &[u8], lengths: &mut [u16]) -> Result<usize, u8> {
+pub fn lyndon_table(record: &[u8], lengths: &mut [u16]) -> Result<(u16,), u8> {
     check_record(record)?;
     let n = record.len();
     let Some(lengths) = lengths.get_mut(..n) else { return Err(4) };
@@ -254,26 +255,5 @@ pub fn lyndon_table(record: &[u8], lengths: &mut [u16]) -> Result<usize, u8> {
         }
         lengths[i] = (j - i) as u16;
     }
-    Ok(n)
-}
-
-/// The words from the two starts to the end of the range.
-pub fn words_in_range(record: &[u8], first: usize, end: usize, start: usize, other: usize) -> Result<(&[u8], &[u8]), u8> {
-    check_record(record)?;
-    if first >= end || end > record.len() {
-        return Err(5);
-    }
-    if start < first || start >= end || other < first || other >= end {
-        return Err(6);
-    }
-    Ok((&record[start..end], &record[other..end]))
-}
-
-/// The sign, and how many leading letters are equal.
-pub fn compare_suffixes(record: &[u8], first: usize, end: usize, start: usize, other: usize) -> Result<(i8, usize), u8> {
-    let (x, y) = words_in_range(record, first, end, start, other)?;
-    Ok(match x.iter().zip(y).position(|(a, b)| a != b) {
-        Some(common) => (if x[common] > y[common] { -1 } else { 1 }, common),
-        None => (x.len().cmp(&y.len()) as i8, x.len().min(y.len())),
-    })
+    Ok((n as u16,))
 }

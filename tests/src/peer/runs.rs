@@ -1,19 +1,15 @@
 //! The maximal repetitions. The root of each is the longest Lyndon word at its place, in one of the two orders of the letters: one table
 //! of these words serves both, since of the two words at a place one has a single letter.
+use super::compare::common_length;
 use super::plain::{check_record, SEPARATOR};
 use metsroeb::MOST;
-
-/// How many leading letters of two words are equal.
-pub fn common_length(x: &[u8], y: &[u8]) -> usize {
-    x.iter().zip(y).take_while(|(a, b)| a == b).count()
-}
 
 /// First place, end and period.
 type Run = [u16; 3];
 
 /// In the inverse order the larger letter comes first. Of two words of which one is a prefix of the other, the shorter one does.
-fn comes_before(x: &[u8], y: &[u8], inverse: bool, common: impl Fn(&[u8], &[u8]) -> usize) -> bool {
-    let at = common(x, y);
+fn comes_before(x: &[u8], y: &[u8], inverse: bool) -> bool {
+    let at = common_length(x, y);
     match (x.get(at), y.get(at)) {
         (Some(a), Some(b)) => (a > b) == inverse,
         (end, _) => end.is_none() && x.len() < y.len(),
@@ -22,7 +18,7 @@ fn comes_before(x: &[u8], y: &[u8], inverse: bool, common: impl Fn(&[u8], &[u8])
 
 /// From right to left, in the order in which the letter comes before the next other one: the place's word takes the words after it as
 /// long as it comes before them. A longer word of the other order, which its first and last letter tell, has a single letter in this one.
-fn find_longest(word: &[u8], longest: &mut [u16], common: impl Fn(&[u8], &[u8]) -> usize) {
+fn find_longest(word: &[u8], longest: &mut [u16]) {
     let mut inverse = false;
     for i in (0..word.len()).rev() {
         if let Some(&next) = word.get(i + 1).filter(|&&next| next != word[i]) {
@@ -33,7 +29,7 @@ fn find_longest(word: &[u8], longest: &mut [u16], common: impl Fn(&[u8], &[u8]) 
             let whole = longest[j] as usize;
             let (first, last) = (word[j], word[j + whole - 1]);
             let length = if first != last && (first > last) == inverse { whole } else { 1 };
-            if !comes_before(&word[i..j], &word[j..j + length], inverse, &common) {
+            if !comes_before(&word[i..j], &word[j..j + length], inverse) {
                 break;
             }
             j += length;
@@ -44,7 +40,7 @@ fn find_longest(word: &[u8], longest: &mut [u16], common: impl Fn(&[u8], &[u8]) 
 
 /// The repetition whose root begins at the place, before which it has between one letter and a period of them. One that reaches the
 /// end of the stretch has such a root in both orders: that of the inverse order counts.
-fn run_at(word: &[u8], longest: &[u16], i: usize, common: impl Fn(&[u8], &[u8]) -> usize) -> Option<Run> {
+fn run_at(word: &[u8], longest: &[u16], i: usize) -> Option<Run> {
     let (before, first) = (word[i - 1], word[i]);
     let period = if before == first { 1 } else { longest[i] as usize };
     if before != word[i + period - 1] {
@@ -55,7 +51,7 @@ fn run_at(word: &[u8], longest: &[u16], i: usize, common: impl Fn(&[u8], &[u8]) 
     if left > period {
         return None;
     }
-    let right = common(&word[i..], &word[i + period..]);
+    let right = common_length(&word[i..], &word[i + period..]);
     let end = i + period + right;
     if left + right < period || before > first && end == word.len() {
         return None;
@@ -64,11 +60,11 @@ fn run_at(word: &[u8], longest: &[u16], i: usize, common: impl Fn(&[u8], &[u8]) 
 }
 
 /// All repetitions, stretch by stretch, in the order of their roots. The table is made anew for each stretch.
-fn each_run(record: &[u8], longest: &mut [u16], common: impl Fn(&[u8], &[u8]) -> usize, mut emit: impl FnMut(Run)) {
+fn each_run(record: &[u8], longest: &mut [u16], mut emit: impl FnMut(Run)) {
     let mut from = 0;
     for word in record.split(|&letter| letter == SEPARATOR) {
-        find_longest(word, longest, &common);
-        for [first, end, period] in (1..word.len()).filter_map(|i| run_at(word, longest, i, &common)) {
+        find_longest(word, longest);
+        for [first, end, period] in (1..word.len()).filter_map(|i| run_at(word, longest, i)) {
             emit([first + from as u16, end + from as u16, period]);
         }
         from += word.len() + 1;
@@ -77,19 +73,19 @@ fn each_run(record: &[u8], longest: &mut [u16], common: impl Fn(&[u8], &[u8]) ->
 
 /// Each is put to its place among those before it, from the back. There are fewer than letters, so they are counted first only for a
 /// list that is shorter than that.
-pub fn runs(record: &[u8], runs: &mut [u16], common: impl Fn(&[u8], &[u8]) -> usize) -> Result<usize, u8> {
+pub fn runs(record: &[u8], runs: &mut [u16]) -> Result<(u16,), u8> {
     check_record(record)?;
     let mut longest = [0; MOST];
     if runs.len() < 3 * (record.len() - 1) {
         let mut needed = 0;
-        each_run(record, &mut longest, &common, |_| needed += 1);
+        each_run(record, &mut longest, |_| needed += 1);
         if runs.len() < 3 * needed {
             return Err(4);
         }
     }
     let list = runs.as_chunks_mut().0;
     let mut count = 0;
-    each_run(record, &mut longest, &common, |run: Run| {
+    each_run(record, &mut longest, |run: Run| {
         let mut place = count;
         while place > 0 && [list[place - 1][0], list[place - 1][2]] > [run[0], run[2]] {
             list[place] = list[place - 1];
@@ -98,5 +94,5 @@ pub fn runs(record: &[u8], runs: &mut [u16], common: impl Fn(&[u8], &[u8]) -> us
         list[place] = run;
         count += 1;
     });
-    Ok(count)
+    Ok((count as u16,))
 }

@@ -7,10 +7,10 @@ use Rattle.naive.proofs.stretches.put_in_place.Statement.{statement}
 use Rattle.naive.proofs.stretches.put_in_place.Tie as tie
 
 abbrev Inv-loop : tie.InvT-loop
-Inv-loop entries from list₀ at count k₀ list k = length list ≡ length list₀
+Inv-loop call from list₀ at count k₀ list k = length list ≡ length list₀
 
 abbrev μ-loop : tie.MeasureT-loop
-μ-loop entries from list₀ at count k₀ list k = count - k
+μ-loop call from list₀ at count k₀ list k = count - k
 
 pub put-in-place-spec : {M : Type 1} → statement M
 put-in-place-spec =

@@ -7,10 +7,10 @@ use Rattle.naive.proofs.stretches.write_list.Statement.{statement}
 use Rattle.naive.proofs.stretches.write_list.Tie as tie
 
 abbrev Inv-loop : tie.InvT-loop
-Inv-loop call entries word defined list₀ from₀ count₀ list from count = length list ≡ length list₀
+Inv-loop call word defined list₀ from₀ count₀ list from count = length list ≡ length list₀
 
 abbrev μ-loop : tie.MeasureT-loop
-μ-loop call entries word defined list₀ from₀ count₀ list from count = length word - from
+μ-loop call word defined list₀ from₀ count₀ list from count = length word - from
 
 pub write-list-spec : {M : Type 1} → statement M
 write-list-spec =
