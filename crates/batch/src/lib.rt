@@ -14,7 +14,8 @@ pub struct Place {
     pub answer: Counted,
 }
 
-/// What a batch comes to: the refusal's number, 0 or 10, and the records' answers in their order; places past the last record hold `Count(0)`, with 10 all do.
+/// What a batch comes to: the refusal's number, 0 or 10, and the records' answers in their order; places past the last
+/// record hold `Count(0)`, with 10 all do.
 pub struct Batch {
     pub refusal: u8,
     pub places: [Place; MOST_RECORDS],
@@ -31,11 +32,12 @@ fn entries_used(answer: Counted) -> usize
     }
 }
 
-/// Cuts up to 64 records that stand one after another in `bytes`, each up to its entry of `record_ends`. Each answer is the piece cut's with what is left of
-/// `pairs`: a refused record uses no entry, and the next one is still tried. Ends count from their own record's start, and the pairs of all records stand from
-/// entry 0 on without gaps. Refusal 10, before any record, where the list is empty, has more than 64 ends, falls somewhere, or does not end with the bytes
-/// lent; both buffers then stay as they were. Otherwise the first entries of `work`, three for each letter of the longest record that was cut or refused by 4,
-/// are zero.
+/// Cuts up to 64 records that stand one after another in `bytes`, each up to its entry of `record_ends`. Each answer is
+/// the piece cut's with what is left of `pairs`: a refused record uses no entry, and the next one is still tried. Ends
+/// count from their own record's start, and the pairs of all records stand from entry 0 on without gaps. Refusal 10,
+/// before any record, where the list is empty, has more than 64 ends, falls somewhere, or does not end with the bytes
+/// lent; both buffers then stay as they were. Otherwise the first entries of `work`, three for each letter of the
+/// longest record that was cut or refused by 4, are zero.
 pub fn icfl_batch(bytes: &[u8], record_ends: &[u32], work: &mut [u16], pairs: &mut [u16]) -> Batch
     ensures { λ r. ⌜ BatchDone recordLines (now (bytes .entry)) (now («record_ends» .entry)) (now (work .entry)) (now (pairs .entry)) r
         (now (work .exit)) (now (pairs .exit)) ⌝ }

@@ -1,5 +1,5 @@
-//! What calls do with a lent buffer, whatever it is for: they clear its front. The laws of buffers and of parts of a list that every call
-//! cites are in proofs/.
+//! What calls do with a lent buffer, whatever it is for: they clear its front. The laws of buffers and of parts of a
+//! list that every call cites are in proofs/.
 ghost use mathlib.Core.Path.{_≡_};
 ghost use Prim.Native.Nat.{_≤_};
 ghost use lib.ListN.{length};

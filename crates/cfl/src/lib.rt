@@ -33,8 +33,8 @@ pub fn cut(word: &[u8], ends: &mut [u16]) -> Counted
     Counted::Count(count)
 }
 
-/// The strict cut: writes the ends of the factors from entry 0 on, and answers their number. Each separator is a factor, and each stretch
-/// between two is cut by itself. Refusals 1, 2, 4.
+/// The strict cut: writes the ends of the factors from entry 0 on, and answers their number. Each separator is a
+/// factor, and each stretch between two is cut by itself. Refusals 1, 2, 4.
 pub fn cfl_in(word: &[u8], ends: &mut [u16]) -> Counted
     ensures { λ r. ⌜ CflInDone (recordLines (now (word .entry))) (now (word .entry)) (now (ends .entry)) r (now (ends .exit)) ⌝ }
 {

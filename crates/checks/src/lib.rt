@@ -1,5 +1,5 @@
-//! The table of refusals, paper 01's lines and those that requests add: a function for each line. A call puts its admission together from
-//! these by `then`, in the table's order, and passes a refusal up with its number unchanged.
+//! The table of refusals, paper 01's lines and those that requests add: a function for each line. A call puts its
+//! admission together from these by `then`, in the table's order, and passes a refusal up with its number unchanged.
 pub use conditions::MOST_RECORDS;
 use conditions::faulty_record_ends;
 use conditions::is_marked;

@@ -1,4 +1,5 @@
-//! Two words compared: which comes first in the inverse order, and how far they agree. And letters and words in either order of the letters.
+//! Two words compared: which comes first in the inverse order, and how far they agree. And letters and words in either
+//! order of the letters.
 mod orders; // precedes, comes_before: letters and words in either order of the letters
 
 use eights::eight_at;
@@ -11,7 +12,8 @@ ghost use mathlib.Core.Path.{_≡_};
 ghost use Rattle.words.specs.Words.{commonLength};
 ghost use Rattle.letters.specs.Steps.{Ordered};
 
-/// Compares two words: eight letters in a step where both have eight more, then one by one. The sign is read off at the first difference.
+/// Compares two words: eight letters in a step where both have eight more, then one by one. The sign is read off at the
+/// first difference.
 pub fn compare_words(x: &[u8], y: &[u8]) -> Order
     ensures { λ r. ⌜ Ordered (now (x .entry)) (now (y .entry)) r ⌝ }
 {

@@ -1,5 +1,5 @@
-//! Letters and words in either order of the letters: the natural one, in which the smaller letter comes first, or the inverse one, in which the larger one
-//! does.
+//! Letters and words in either order of the letters: the natural one, in which the smaller letter comes first, or the
+//! inverse one, in which the larger one does.
 use super::compare_words;
 ghost use Rattle.words.specs.Words.{_≺_};
 ghost use Rattle.theory.specs.orders.Decisions.{Decides};
@@ -12,8 +12,9 @@ pub fn precedes(natural: bool, a: u8, b: u8) -> bool
     if natural { a < b } else { b < a }
 }
 
-/// Whether u comes before v. Their first letters decide most often; if these are equal, what follows them does. Its comparison gives the sign of the
-/// inverse order; in the natural one the letters where both part decide, or that u is a proper prefix.
+/// Whether u comes before v. Their first letters decide most often; if these are equal, what follows them does. Its
+/// comparison gives the sign of the inverse order; in the natural one the letters where both part decide, or that u is
+/// a proper prefix.
 pub fn comes_before(natural: bool, u: &[u8], v: &[u8]) -> bool
     requires { ⌜ BothBegin (now u) (now v) ⌝ }
     ensures { λ r. ⌜ Decides (inOrder natural (now (u .entry)) ≺ inOrder natural (now (v .entry))) r ⌝ }

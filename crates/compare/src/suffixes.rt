@@ -42,8 +42,9 @@ pub fn compare_within(
     }
 }
 
-/// Compares the remainders at `start` and at `other` of the range from `first` to `end`, in the inverse order: −1 if the one at
-/// `start` comes first, 0 if the starts are equal, +1 otherwise; and counts how many of their leading letters are equal.
+/// Compares the remainders at `start` and at `other` of the range from `first` to `end`, in the inverse order: −1 if
+/// the one at `start` comes first, 0 if the starts are equal, +1 otherwise; and counts how many of their leading
+/// letters are equal.
 pub fn compare_suffixes(
     word: &[u8],
     first: usize,

@@ -6,7 +6,8 @@ ghost use Rattle.conditions.specs.Conditions.{faultyRecordEnds};
 /// The most records that a batch may have.
 pub const MOST_RECORDS: usize = 64;
 
-/// Whether the word holds the separator. Every letter is looked at, without a branch, so that the compiler can look at many at once.
+/// Whether the word holds the separator. Every letter is looked at, without a branch, so that the compiler can look at
+/// many at once.
 pub fn is_marked(word: &[u8]) -> bool
     ensures { λ r. ⌜ r ≡ isMarked (now (word .entry)) ⌝ }
 {

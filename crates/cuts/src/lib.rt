@@ -20,8 +20,8 @@ pub struct Counts {
     pub breaks: usize,
 }
 
-// The first cut: a separator is a factor by itself. From a letter below it the test stops at a separator at the latest, since that is the largest letter, with an
-// empty r: the stretch ends there.
+// The first cut: a separator is a factor by itself. From a letter below it the test stops at a separator at the latest,
+// since that is the largest letter, with an empty r: the stretch ends there.
 fn first_cut(word: &[u8], work: &mut [u16]) -> Cut
     requires { ⌜ TestRoom (now word) (now work) ⌝ }
     ensures { λ r. ⌜ FirstCut (now (word .entry)) (now (work .entry)) r (now (work .exit)) ⌝ }

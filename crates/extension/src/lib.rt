@@ -1,4 +1,5 @@
-//! The test of a record: is it an inverse Lyndon word, and if not, where does its shortest failing prefix end, and with which border?
+//! The test of a record: is it an inverse Lyndon word, and if not, where does its shortest failing prefix end, and with
+//! which border?
 use checks::Checked;
 use scan::Scan;
 ghost use mathlib.Core.Path.{_≡_};
@@ -7,7 +8,8 @@ ghost use Rattle.theory.specs.scan.ScannedBorders.{ShortestBorder};
 ghost use Rattle.checks.specs.Lines.{tried, recordLines, Accepted};
 ghost use Rattle.extension.specs.Extension.{extensionLines, ExtensionFound, TestRoom, Scanning, Ready, Verdict};
 
-/// What the test answers: inverse Lyndon (paper 01: falling); failing, with L, |p| and |r|; or the number of the refusal.
+/// What the test answers: inverse Lyndon (paper 01: falling); failing, with L, |p| and |r|; or the number of the
+/// refusal.
 pub enum Extension {
     InverseLyndon,
     Failing {
@@ -38,7 +40,8 @@ fn scan_borders(word: &[u8], work: &mut [u16]) -> Scan
     s
 }
 
-// The shortest border of the first `at` letters whose next letter is below the letter there; `longest` is their longest border.
+// The shortest border of the first `at` letters whose next letter is below the letter there; `longest` is their longest
+// border.
 fn shortest_border(word: &[u8], table: &[u16], at: usize, longest: usize) -> usize
     requires { ⌜ Ready (now word) (now table) at longest ⌝ }
     ensures { λ r. ⌜ ShortestBorder (now (word .entry)) at r ⌝ }
@@ -55,8 +58,8 @@ fn shortest_border(word: &[u8], table: &[u16], at: usize, longest: usize) -> usi
     border
 }
 
-/// The verdict on a word that was accepted; the separator is a letter as any other here, and nothing is refused. It uses the first entries of
-/// `work`, as many as the word has letters.
+/// The verdict on a word that was accepted; the separator is a letter as any other here, and nothing is refused. It
+/// uses the first entries of `work`, as many as the word has letters.
 pub fn extension_of(word: &[u8], work: &mut [u16]) -> Extension
     requires { ⌜ TestRoom (now word) (now work) ⌝ }
     ensures { λ r. ⌜ Verdict (now (word .entry)) (now (work .entry)) r (now (work .exit)) ⌝ }
@@ -100,8 +103,8 @@ pub fn test(word: &[u8], work: &mut [u16]) -> Extension
     found
 }
 
-/// The test. Refusals 1, 2, 3, 9; after a result the first entries of `work`, as many as the word has letters, are zero, and a refusal leaves
-/// it as it was.
+/// The test. Refusals 1, 2, 3, 9; after a result the first entries of `work`, as many as the word has letters, are
+/// zero, and a refusal leaves it as it was.
 pub fn find_extension(word: &[u8], work: &mut [u16]) -> Extension
     ensures { λ r. ⌜ ExtensionFound (recordLines (now (word .entry))) (now (word .entry)) (now (work .entry)) r (now (work .exit)) ⌝ }
 {

@@ -1,4 +1,5 @@
-//! What became of each break: read off the notes of the cuts and the ends of the factors, from left to right, and written five entries a break.
+//! What became of each break: read off the notes of the cuts and the ends of the factors, from left to right, and
+//! written five entries a break.
 use breaks::Found;
 use words::Break;
 use words::Fate;
@@ -11,7 +12,8 @@ ghost use Rattle.words.specs.Separated.{separatedBreaks};
 ghost use Rattle.fates.specs.Entries.{breakEntries, entriesOfBreaks};
 ghost use Rattle.fates.specs.Fates.{Near, breakBy, WriteRoom, BreakWritten, Writable};
 
-// A cut, told as a break is, by the first end that does not lie before it: kept if that is its place, otherwise joined to the factor that ends there.
+// A cut, told as a break is, by the first end that does not lie before it: kept if that is its place, otherwise joined
+// to the factor that ends there.
 fn break_of(word: &[u8], place: u16, begun: u16, border: u16, end: u16) -> Break
     requires { ⌜ Near (now word) place begun border end ⌝ }
     ensures { λ r. ⌜ r ≡ breakBy (now (word .entry)) place begun border end ⌝ }

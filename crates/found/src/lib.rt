@@ -1,5 +1,5 @@
-//! The run that a place serves: the period is 1 after the same letter, else the length of the longest Lyndon word there. How far it repeats to the left and
-//! to the right decides.
+//! The run that a place serves: the period is 1 after the same letter, else the length of the longest Lyndon word
+//! there. How far it repeats to the left and to the right decides.
 ghost use mathlib.Core.Path.{_≡_};
 ghost use Prim.Native.Nat.{_<_};
 ghost use lib.ListN.{length};
@@ -29,7 +29,8 @@ fn period_at(word: &[u8], longest: &[u16], i: usize) -> usize
     longest[i] as usize
 }
 
-// How many letters before i are equal to those a period later, counted from i on to the left, and no more than one above the period.
+// How many letters before i are equal to those a period later, counted from i on to the left, and no more than one
+// above the period.
 fn left_of(word: &[u8], i: usize, period: usize) -> usize
     requires { ⌜ LeftAsked (now word) i period ⌝ }
     ensures { λ r. ⌜ r ≡ leftOf (now (word .entry)) i period ⌝ }
@@ -49,8 +50,8 @@ fn left_of(word: &[u8], i: usize, period: usize) -> usize
     l
 }
 
-// Whether a run that place i serves is listed by it. One whose word is of the natural order has to end before the stretch does: else its word of the
-// inverse order serves it.
+// Whether a run that place i serves is listed by it. One whose word is of the natural order has to end before the
+// stretch does: else its word of the inverse order serves it.
 fn stands_for(word: &[u8], i: usize, end: usize) -> bool
     requires { ⌜ (0 < i) × (i < length (now word)) ⌝ }
     ensures { λ r. ⌜ Decides (Counts (now (word .entry)) i end) r ⌝ }

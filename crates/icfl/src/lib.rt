@@ -28,9 +28,10 @@ pub fn cut(word: &[u8], work: &mut [u16], pairs: &mut [u16]) -> Counted
     Counted::Count(count)
 }
 
-/// The piece cut: writes a pair for each factor from entry 0 on, its end and the number of anti-Lyndon factors inside, and answers the number of factors. Each
-/// separator is a factor, and each stretch between two is cut by itself. Refusals 1, 2, 3, 4; a pair is two entries. After a result and after 4 the first
-/// entries of `work`, three for each letter, are zero.
+/// The piece cut: writes a pair for each factor from entry 0 on, its end and the number of anti-Lyndon factors inside,
+/// and answers the number of factors. Each separator is a factor, and each stretch between two is cut by itself.
+/// Refusals 1, 2, 3, 4; a pair is two entries. After a result and after 4 the first entries of `work`, three for each
+/// letter, are zero.
 pub fn icfl(word: &[u8], work: &mut [u16], pairs: &mut [u16]) -> Counted
     ensures { λ r. ⌜ IcflDone (recordLines (now (word .entry))) (now (word .entry)) (now (work .entry)) (now (pairs .entry)) r
         (now (work .exit)) (now (pairs .exit)) ⌝ }

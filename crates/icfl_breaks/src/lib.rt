@@ -45,9 +45,10 @@ pub fn cut_with_breaks(
     }
 }
 
-/// The piece cut with its reasons: writes the pairs as the piece cut does, and the breaks of all stretches from left to right, five entries each: the place
-/// where p ends, the place where that step began, |r|; then the two letters for a kept one, 256 and what the joined factor lacks of |r| for a joined one.
-/// Refusals 1, 2, 3, 4 for the pairs, 4 for the breaks; either 4 leaves both result buffers as they were. The work buffer is left as by the piece cut.
+/// The piece cut with its reasons: writes the pairs as the piece cut does, and the breaks of all stretches from left to
+/// right, five entries each: the place where p ends, the place where that step began, |r|; then the two letters for a
+/// kept one, 256 and what the joined factor lacks of |r| for a joined one. Refusals 1, 2, 3, 4 for the pairs, 4 for the
+/// breaks; either 4 leaves both result buffers as they were. The work buffer is left as by the piece cut.
 pub fn icfl_with_breaks(
     word: &[u8],
     work: &mut [u16],

@@ -41,7 +41,8 @@ fn move_on(runs: &mut [u16], at: usize)
     write_run(runs, at + 3, first, end, period);
 }
 
-// Moves those of the `count` runs that come later than one with this first place and period a place on, and answers the place that is free then.
+// Moves those of the `count` runs that come later than one with this first place and period a place on, and answers the
+// place that is free then.
 fn make_room(runs: &mut [u16], count: usize, first: u16, period: u16) -> usize
     requires { ⌜ InsertRoom (now runs) count ⌝ }
     ensures { λ r. ⌜ RoomMade (now (runs .entry)) count first period r (now (runs .exit)) ⌝ }

@@ -1,11 +1,12 @@
-//! Two words compared letter by letter: where they part, or that one is a prefix of the other, and which comes first in the inverse order.
+//! Two words compared letter by letter: where they part, or that one is a prefix of the other, and which comes first in
+//! the inverse order.
 ghost use mathlib.Core.Path.{_≡_};
 ghost use Prim.Native.Nat.{min};
 ghost use Rattle.theory.specs.orders.CommonLength.{Matched};
 ghost use Rattle.letters.specs.Steps.{LetterSign, PrefixOrdered, PartedAt, Ordered};
 
-/// Two words x and y compared: −1 if x comes before y in the inverse order, 0 if they are the same, +1 otherwise; and the number of
-/// equal leading letters.
+/// Two words x and y compared: −1 if x comes before y in the inverse order, 0 if they are the same, +1 otherwise; and
+/// the number of equal leading letters.
 pub struct Order {
     pub sign: i8,
     pub common: usize,

@@ -1,5 +1,5 @@
-//! The list program on further inputs: each file that an argument names, one listing after the other. A folder can be opened and not read; what the
-//! program says then goes to standard output here, among the listings.
+//! The list program on further inputs: each file that an argument names, one listing after the other. A folder can be
+//! opened and not read; what the program says then goes to standard output here, among the listings.
 use libc::STDOUT_FILENO;
 
 fn list_file(argument: usize) {

@@ -3,7 +3,8 @@ use checks::MOST;
 ghost use lib.ListN.{length};
 ghost use Rattle.lister.specs.Reading.{Within};
 
-// A proved loop has to end, and nothing says that an input does, or that signals do; so such a loop counts down from a number that no run uses up.
+// A proved loop has to end, and nothing says that an input does, or that signals do; so such a loop counts down from a
+// number that no run uses up.
 const TURNS: u64 = u64::MAX;
 
 /// What reading came to: so many bytes, or a read that failed.
@@ -12,7 +13,8 @@ pub enum Got {
     Failed,
 }
 
-// Reads once into `buffer`: 0 bytes at the input's end. A read that a signal interrupts before a byte has come is made again.
+// Reads once into `buffer`: 0 bytes at the input's end. A read that a signal interrupts before a byte has come is made
+// again.
 fn read_some(input: i32, buffer: &mut [u8]) -> Got
     ensures { λ r. ⌜ Within r (length (now (buffer .entry))) ⌝ }
 {
@@ -71,7 +73,8 @@ fn skip_rest(input: i32) -> bool {
     false
 }
 
-// Reads `input` to its end. One byte more than a record may have tells that the record is too long; the bytes after it are read too, and change nothing.
+// Reads `input` to its end. One byte more than a record may have tells that the record is too long; the bytes after it
+// are read too, and change nothing.
 fn read_record(input: i32, word: &mut [u8]) -> Got
     ensures { λ r. ⌜ Within r (length (now (word .entry))) ⌝ }
 {
@@ -85,7 +88,8 @@ fn read_record(input: i32, word: &mut [u8]) -> Got
     got
 }
 
-/// Reads `input` to its end and writes the listing of its bytes to `output`. After a read that failed it writes one line to `errors` and nothing else.
+/// Reads `input` to its end and writes the listing of its bytes to `output`. After a read that failed it writes one
+/// line to `errors` and nothing else.
 pub fn list(input: i32, output: i32, errors: i32) {
     let mut word = [0u8; MOST + 1];
     let got = read_record(input, &mut word);

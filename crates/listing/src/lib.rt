@@ -63,8 +63,9 @@ fn list_word(
     )
 }
 
-/// Writes the listing of `word` to the front of `out` and answers its length: seven lines, or the one line of refusal 1 or 2. The buffers have room for
-/// every record; `work`, `pairs` and `strict` are left as the piece cut and the strict cut leave them.
+/// Writes the listing of `word` to the front of `out` and answers its length: seven lines, or the one line of refusal 1
+/// or 2. The buffers have room for every record; `work`, `pairs` and `strict` are left as the piece cut and the strict
+/// cut leave them.
 pub fn write_listing(
     word: &[u8],
     work: &mut [u16; WORK],

@@ -1,6 +1,6 @@
-//! The longest Lyndon word at each place, in either order of the letters: from right to left, the word at a place is made of the letter there and the
-//! longest words that follow, as long as each comes after what stands before it. At each place one of the two lengths is 1, so the longer one is kept; the
-//! letters of its word tell its order.
+//! The longest Lyndon word at each place, in either order of the letters: from right to left, the word at a place is
+//! made of the letter there and the longest words that follow, as long as each comes after what stands before it. At
+//! each place one of the two lengths is 1, so the longer one is kept; the letters of its word tell its order.
 ghost use mathlib.Core.Path.{_≡_};
 ghost use mathlib.Core.Bool.{not};
 ghost use Rattle.theory.specs.repetitions.RunSuffixes.{entryAt};
@@ -8,7 +8,8 @@ ghost use Rattle.theory.specs.repetitions.TwoOrders.{longestAt};
 ghost use Rattle.common.specs.Orders.{mostByte, inOrder};
 ghost use Rattle.longest.specs.Longest.{LongestKnown, LongestAfter, NextAfter, LongestRoom, LongestFilled};
 
-// The length of the longest Lyndon word at j in an order: a word of more than one letter begins with a letter that comes before its last one.
+// The length of the longest Lyndon word at j in an order: a word of more than one letter begins with a letter that
+// comes before its last one.
 fn length_in(natural: bool, word: &[u8], longest: &[u16], j: usize) -> usize
     requires { ⌜ LongestKnown (now word) (now longest) j ⌝ }
     ensures { λ r. ⌜ r ≡ entryAt (inOrder natural (now (word .entry))) j ⌝ }
@@ -36,8 +37,8 @@ fn merged_length(natural: bool, word: &[u8], longest: &[u16], i: usize) -> usize
     j - i
 }
 
-// The order in which a word of more than one letter may begin at i: in the other one the letter is alone. The next letter decides, or the word there if it
-// is the same.
+// The order in which a word of more than one letter may begin at i: in the other one the letter is alone. The next
+// letter decides, or the word there if it is the same.
 fn natural_at(word: &[u8], longest: &[u16], i: usize) -> bool
     requires { ⌜ NextAfter (now word) (now longest) i ⌝ }
     ensures { λ r. ⌜ entryAt (inOrder (not r) (now (word .entry))) i ≡ 1 ⌝ }

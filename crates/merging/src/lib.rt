@@ -1,6 +1,6 @@
-//! The Lyndon table by merging: from right to left, the longest anti-Lyndon word at a place is made of the letter there and the
-//! longest words that follow, as long as each comes after what stands before it. A separator is a word alone; it comes before every word
-//! that begins below it, so it joins none.
+//! The Lyndon table by merging: from right to left, the longest anti-Lyndon word at a place is made of the letter there
+//! and the longest words that follow, as long as each comes after what stands before it. A separator is a word alone;
+//! it comes before every word that begins below it, so it joins none.
 use common::comes_before;
 ghost use mathlib.Core.Path.{_≡_};
 ghost use lib.ListN.{getD};
@@ -9,8 +9,8 @@ ghost use Rattle.theory.specs.orders.Decisions.{Decides};
 ghost use Rattle.buffers.specs.Buffers.{written};
 ghost use Rattle.merging.specs.Steps.{TableRoom, NextKnown, MergedTo, SeparatorAlone, LetterJoins};
 
-// Whether a letter joins the word v after it, which is a single letter if it begins with a separator. A separator joins none; it is looked
-// for only where the first letters differ, since two of them do not join anyhow.
+// Whether a letter joins the word v after it, which is a single letter if it begins with a separator. A separator joins
+// none; it is looked for only where the first letters differ, since two of them do not join anyhow.
 fn letter_joins(a: u8, v: &[u8]) -> bool
     requires { ⌜ SeparatorAlone (now v) ⌝ }
     ensures { λ r. ⌜ Decides (LetterJoins a (now (v .entry))) r ⌝ }
@@ -25,8 +25,8 @@ fn letter_joins(a: u8, v: &[u8]) -> bool
     (b < a) & (a != words::SEPARATOR)
 }
 
-// Entry i of the table: the word from i to `from` is anti-Lyndon and begins with no separator, and the words that follow join it as long as
-// they come after it.
+// Entry i of the table: the word from i to `from` is anti-Lyndon and begins with no separator, and the words that
+// follow join it as long as they come after it.
 fn longest_from(word: &[u8], lengths: &[u16], i: usize, from: usize) -> usize
     requires { ⌜ MergedTo (now word) (now lengths) i from ⌝ }
     ensures { λ r. ⌜ r ≡ getD (separatedTable (now (word .entry))) i 0 ⌝ }
@@ -42,8 +42,8 @@ fn longest_from(word: &[u8], lengths: &[u16], i: usize, from: usize) -> usize
     j - i
 }
 
-// Entry i of the table, from the entries after it; `next` is the first of them, 0 if there is none. That the first word reaches to the end is
-// asked before the loop, which a falling record then never enters.
+// Entry i of the table, from the entries after it; `next` is the first of them, 0 if there is none. That the first word
+// reaches to the end is asked before the loop, which a falling record then never enters.
 fn longest_at(word: &[u8], lengths: &[u16], i: usize, next: usize) -> usize
     requires { ⌜ NextKnown (now word) (now lengths) i next ⌝ }
     ensures { λ r. ⌜ r ≡ getD (separatedTable (now (word .entry))) i 0 ⌝ }

@@ -1,5 +1,5 @@
-//! The answers of the calls as numbers, for callers in C and Rust: the refusal's number, 0 for a result, and beside it the result's numbers, 0 with a refusal.
-//! They have sixteen bits, so each function asks that they fit.
+//! The answers of the calls as numbers, for callers in C and Rust: the refusal's number, 0 for a result, and beside it
+//! the result's numbers, 0 with a refusal. They have sixteen bits, so each function asks that they fit.
 use batch::Batch;
 use batch::MOST_RECORDS;
 use checks::Counted;

@@ -1,5 +1,6 @@
-//! A list of pairs in a buffer (request 108): for each part of a record its end, and beside it the number of anti-Lyndon factors inside. Only this crate knows
-//! that a pair is two entries, the end first; calls that read or write such a list go through it.
+//! A list of pairs in a buffer (request 108): for each part of a record its end, and beside it the number of
+//! anti-Lyndon factors inside. Only this crate knows that a pair is two entries, the end first; calls that read or
+//! write such a list go through it.
 ghost use mathlib.Core.Path.{_≡_};
 ghost use Prim.Native.Nat.{_*_, _≤_, _<_};
 ghost use lib.ListN.{length, getD};
@@ -44,8 +45,8 @@ pub fn factor_end(pairs: &[u16], number: usize) -> u16
     pairs[2 * number]
 }
 
-/// Whether a list of pairs is empty or has an odd number of entries, its ends do not rise strictly from above 0 to the record's length, or a count is 0 or above
-/// its part's length.
+/// Whether a list of pairs is empty or has an odd number of entries, its ends do not rise strictly from above 0 to the
+/// record's length, or a count is 0 or above its part's length.
 pub fn faulty_pairs(pairs: &[u16], letters: usize) -> bool
     ensures { λ r. ⌜ r ≡ faultyPairs (now (pairs .entry)) letters ⌝ }
 {
@@ -68,7 +69,8 @@ pub fn faulty_pairs(pairs: &[u16], letters: usize) -> bool
     last != letters
 }
 
-// The number of anti-Lyndon factors of a factor. A letter alone, as a separator and all of a rising word are, is one without a walk.
+// The number of anti-Lyndon factors of a factor. A letter alone, as a separator and all of a rising word are, is one
+// without a walk.
 fn count_inside(factor: &[u8]) -> usize
     requires { ⌜ length (now factor) ≤ mostLetters ⌝ }
     ensures { λ r. ⌜ r ≡ length (separatedCflInEnds (now (factor .entry))) ⌝ }
@@ -79,8 +81,8 @@ fn count_inside(factor: &[u8]) -> usize
     strict::count_factors(factor)
 }
 
-/// Writes the pairs of a word, given the ends of its factors, to the front of `pairs`. Every factor ends where an anti-Lyndon one does, so each is counted by
-/// itself.
+/// Writes the pairs of a word, given the ends of its factors, to the front of `pairs`. Every factor ends where an
+/// anti-Lyndon one does, so each is counted by itself.
 pub fn write_pairs(word: &[u8], ends: &[u16], pairs: &mut [u16])
     requires { ⌜ PairsRoom (now word) (now ends) (now pairs) ⌝ }
     ensures { λ r. ⌜ now (pairs .exit) ≡ written (separatedPairs (now (word .entry))) (now (pairs .entry)) ⌝ }

@@ -1,5 +1,5 @@
-//! The reader: a part of a record by its number in a paired list. The list may be any that line 7 of the refusals accepts; it need not
-//! be a factorization.
+//! The reader: a part of a record by its number in a paired list. The list may be any that line 7 of the refusals
+//! accepts; it need not be a factorization.
 use checks::Checked;
 ghost use mathlib.Core.Path.{_≡_};
 ghost use mathlib.Core.List.{[]};
@@ -28,8 +28,9 @@ pub fn part_at<'a>(word: &'a [u8], pairs: &[u16], number: usize, refusal: &mut u
     &word[from..end]
 }
 
-/// Part `number`, counted from 0, of the record: the letters from the end before it to its own end in `pairs`, the first from place 0.
-/// The refusal's number, 1, 2, 7 or 8, goes to `refusal`, 0 for a result; the part beside a refusal is empty.
+/// Part `number`, counted from 0, of the record: the letters from the end before it to its own end in `pairs`, the
+/// first from place 0. The refusal's number, 1, 2, 7 or 8, goes to `refusal`, 0 for a result; the part beside a refusal
+/// is empty.
 pub fn factor_at<'a>(word: &'a [u8], pairs: &[u16], number: usize, refusal: &mut u8) -> &'a [u8]
     ensures { λ r. ⌜ FactorAt (recordLines (now (word .entry))) (now (word .entry)) (now (pairs .entry)) number (now r) (now (refusal .exit)) ⌝ }
 {

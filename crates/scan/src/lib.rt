@@ -2,8 +2,8 @@
 ghost use mathlib.Core.Path.{_≡_};
 ghost use Rattle.scan.specs.State.{startState, stepState, Short, Resumes, Rests};
 
-/// The scan's state (paper 01: a state with two places): the number of letters read, and the length of their longest border, which is
-/// the place of the letter that the next one meets.
+/// The scan's state (paper 01: a state with two places): the number of letters read, and the length of their longest
+/// border, which is the place of the letter that the next one meets.
 pub struct Scan {
     pub border: usize,
     pub length: usize,

@@ -1,4 +1,5 @@
-//! The walk over the anti-Lyndon factors of a word (paper 01: its strict pieces), stretch by stretch (request 103), by Duval's algorithm on the shared scan.
+//! The walk over the anti-Lyndon factors of a word (paper 01: its strict pieces), stretch by stretch (request 103), by
+//! Duval's algorithm on the shared scan.
 use scan::Scan;
 ghost use mathlib.Core.Path.{_≡_};
 ghost use Prim.Native.Nat.{_≤_};
@@ -13,8 +14,8 @@ struct Run {
     until: usize,
 }
 
-// The run at `from`: the one that is known, a separator alone, or that of the longest anti-Lyndon prefix there, from a scan. A scan that
-// begins below the separator stops before the next one by itself, since no letter is larger.
+// The run at `from`: the one that is known, a separator alone, or that of the longest anti-Lyndon prefix there, from a
+// scan. A scan that begins below the separator stops before the next one by itself, since no letter is larger.
 fn run_at(word: &[u8], from: usize, known: Run) -> Run
     requires { ⌜ RunAsked (now word) from known ⌝ }
     ensures { λ r. ⌜ RunAt (now (word .entry)) from r ⌝ }

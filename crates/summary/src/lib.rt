@@ -1,5 +1,5 @@
-//! The summary of the parts that a paired list marks in a record. The list may be any that line 7 of the refusals accepts; it need not
-//! be a factorization.
+//! The summary of the parts that a paired list marks in a record. The list may be any that line 7 of the refusals
+//! accepts; it need not be a factorization.
 use checks::Checked;
 ghost use mathlib.Core.Path.{_≡_};
 ghost use mathlib.Core.List.{[]};
@@ -45,7 +45,8 @@ impl Summary {
     }
 }
 
-// The summary of the parts that a paired list marks. A part takes the place of the longest before it unless it is shorter.
+// The summary of the parts that a paired list marks. A part takes the place of the longest before it unless it is
+// shorter.
 fn sum_up(pairs: &[u16]) -> Summary
     requires { ⌜ Summable (endsOf (now pairs)) ⌝ }
     ensures { λ r. ⌜ r ≡ summaryOf (endsOf (now (pairs .entry))) ⌝ }

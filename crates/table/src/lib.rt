@@ -1,5 +1,5 @@
-//! The Lyndon table (start table): at each place, the length of the longest anti-Lyndon word that starts there and does not reach past the
-//! stretch that the place lies in.
+//! The Lyndon table (start table): at each place, the length of the longest anti-Lyndon word that starts there and does
+//! not reach past the stretch that the place lies in.
 use checks::Checked;
 use checks::Counted;
 ghost use mathlib.Core.List.{[]};
@@ -19,8 +19,8 @@ pub fn tabulate(word: &[u8], lengths: &mut [u16]) -> Counted
     Counted::Count(word.len())
 }
 
-/// The start table: writes the Lyndon table of each stretch between separators, with 1 for a separator, into the first entries of `lengths`,
-/// as many as the word has letters, and answers their number. Refusals 1, 2, 4.
+/// The start table: writes the Lyndon table of each stretch between separators, with 1 for a separator, into the first
+/// entries of `lengths`, as many as the word has letters, and answers their number. Refusals 1, 2, 4.
 pub fn lyndon_table(word: &[u8], lengths: &mut [u16]) -> Counted
     ensures { λ r. ⌜ Tabled (recordLines (now (word .entry))) (now (word .entry)) (now (lengths .entry)) r (now (lengths .exit)) ⌝ }
 {

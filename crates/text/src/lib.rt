@@ -89,7 +89,8 @@ fn write_line(
     end + 1
 }
 
-/// The line `key=` with the numbers in decimal, commas between them, ended by byte 10. It must fit into `out` from `at` on.
+/// The line `key=` with the numbers in decimal, commas between them, ended by byte 10. It must fit into `out` from `at`
+/// on.
 pub fn write_list_line(key: &[u8], numbers: &[u16], out: &mut [u8], at: usize) -> usize
     requires { ⌜ FitsAt at (line (now key) (commaList (now numbers))) (now out) ⌝ }
     ensures { λ r. ⌜ WroteAt at (line (now (key .entry)) (commaList (now (numbers .entry)))) (now (out .entry)) r (now (out .exit)) ⌝ }

@@ -1,4 +1,5 @@
-//! All places of all stretches: the runs are counted, and put into the list in the result buffer where they are to be stored.
+//! All places of all stretches: the runs are counted, and put into the list in the result buffer where they are to be
+//! stored.
 use found::Found;
 use found::run_at;
 use inserting::insert;
