@@ -18,11 +18,11 @@ function row_of(call, record) {
     return call
 }
 # Reader and summary are called once for a page. The breaks may cost something, beside the cut without them. The peer of the comparison
-# and of the repetitions reads eight bytes in a step as the verified one does.
+# reads eight bytes in a step as the verified one does.
 function bar_of(row) {
     if (bar != "") return bar
     if (row ~ /both verified/) return 1.30
-    if (row ~ /metsroeb_(compare|runs)/) return 1.15
+    if (row ~ /metsroeb_compare/) return 1.15
     return row ~ /metsroeb_(factor|summarize)/ ? 1.25 : 1.00
 }
 # Bars that are known to be missed (docs/DECISIONS.md, the summary and marks): the run fails only above these.
