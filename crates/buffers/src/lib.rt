@@ -1,5 +1,7 @@
 //! What calls do with a lent buffer, whatever it is for: they clear its front. The laws of buffers and of parts of a
 //! list that every call cites are in proofs/.
+#![tactic(auto)]
+
 ghost use Rattle.std.specs.Prelude.{◌≡◌, ◌≤◌, length};
 ghost use Rattle.buffers.specs.Buffers.{cleared};
 

@@ -87,7 +87,7 @@ shortest-is u s n = go (least-is (λ r. u <ₗ last_letters u r) (λ r. is_lex_l
         above = above m p;
         shorter = λ k l. below m h k (omega arith);
         word = inverse-lyndon (rw length-drop (omega arith))
-            (λ k. elim k [ zero ↦ ≤ₗ-refl _ | suc j ↦ rw drop-drop (≤ₗ-≪-trans (below m h (length u - suc m + suc j) (omega arith)) (above m p)) ]);
+            (λ k. elim k as (λ j. drop j (last_letters u m) ≤ₗ last_letters u m) [ zero ↦ ≤ₗ-refl _ | suc j ↦ rw drop-drop (≤ₗ-≪-trans (below m h (length u - suc m + suc j) (omega arith)) (above m p)) ]);
       },
     )
     go (never h) = absurd (n (inverse-lyndon s (λ k. below (length u) (λ j a b. h j a (omega arith)) k (omega arith))))

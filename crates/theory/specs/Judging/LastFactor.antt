@@ -13,8 +13,8 @@ use Rattle.words.specs.Words.{◌≪◌, here, there, ◌⊑◌, done, step, Inv
 use Rattle.words.specs.Factorizations.{cfl_in}
 use Rattle.theory.specs.Statements.{EqualOrAfter, Linked, more}
 use Rattle.theory.specs.Places.LinkedLaws.{linked-after}
-use Rattle.theory.specs.Orders.PrefixLaws.{⊑_refl, ⊑-whole}
-use Rattle.theory.specs.Orders.MismatchLaws.{≪-not-⊑, ≪-extend, ≪-left-nonempty}
+use Rattle.theory.specs.Orders.PrefixLaws.{⊑_refl, ⊑-parts, ⊑-whole}
+use Rattle.theory.specs.Orders.MismatchLaws.{≪-tail, ≪-not-⊑, ≪-extend, ≪-left-nonempty}
 use Rattle.theory.specs.Orders.CommonLength.{common-agree, agree-≪, agree-≪-sym}
 use Rattle.theory.specs.Orders.LexLaws.{≤ₗ-not-≪}
 use Rattle.theory.specs.Orders.InverseLaws.{◌≼◌, won}
@@ -43,13 +43,10 @@ common-prefix n done = (λ p. zero-le, λ l. done)
 common-prefix [] (step h) = (λ p. elim p [ ], λ l. absurd (omega arith))
 common-prefix (b ∷ n) (step {a = a} {x = x} {y = m} h) = go (eqb-test a b) (common-prefix n h)
   where
-    tail : {c d : ℕ} {u v : List ℕ} → (c ∷ u) ⊑ (d ∷ v) → (c ≡ d) × (u ⊑ v)
-    tail (step p) = (refl, p)
-
     go : {t : Bool} → Decides (a ≡ b) t → (x ⊑ n) ↔ (length x ≤ common_length_of m n)
         → ((a ∷ x) ⊑ (b ∷ n)) ↔ (length (a ∷ x) ≤ elim t [ true ↦ suc (common_length_of m n) | false ↦ 0 ])
-    go (holds e) k = (λ p. let z = k.0 (tail p).1 in omega (arith, z), λ l. rw e (step (k.1 (omega arith))))
-    go (fails e) k = (λ p. absurd (e (tail p).0), λ l. absurd (omega arith))
+    go (holds e) k = (λ p. let z = k.0 (⊑-parts p).1 in omega (arith, z), λ l. rw e (step (k.1 (omega arith))))
+    go (fails e) k = (λ p. absurd (e (⊑-parts p).0), λ l. absurd (omega arith))
 
 -- the letters at l, which both have: the left one is smaller
 pub record SmallerAt (m n : List ℕ) (l : ℕ) : Type 0 where
@@ -63,10 +60,6 @@ mismatch-common [] n = (λ h. absurd (omega (arith, ≪-left-nonempty h)), λ c.
 mismatch-common (a ∷ m) [] = (λ h. elim h [ ], λ c. absurd (omega (arith, c.right)))
 mismatch-common (a ∷ m) (b ∷ n) = go (eqb-test a b) (mismatch-common m n)
   where
-    tail : {c : ℕ} {u v : List ℕ} → (c ∷ u) ≪ (c ∷ v) → u ≪ v
-    tail (here h) = absurd (omega arith)
-    tail (there h) = h
-
     head : {c d : ℕ} {u v : List ℕ} → ¬ (c ≡ d) → (c ∷ u) ≪ (d ∷ v) → c < d
     head e (here h) = h
     head e (there h) = absurd (e refl)
@@ -76,7 +69,7 @@ mismatch-common (a ∷ m) (b ∷ n) = go (eqb-test a b) (mismatch-common m n)
     go (holds e) k = (to, λ c. rw e (there (k.1 (record { left = omega (arith, c.left); right = omega (arith, c.right); below = c.below }))))
       where
         to : (a ∷ m) ≪ (b ∷ n) → SmallerAt (a ∷ m) (b ∷ n) (suc (common_length_of m n))
-        to h = let c = k.0 (tail (rw e at h)) in record { left = omega (arith, c.left); right = omega (arith, c.right); below = c.below }
+        to h = let c = k.0 (≪-tail refl (rw e at h)) in record { left = omega (arith, c.left); right = omega (arith, c.right); below = c.below }
     go (fails e) k = (λ h. record { left = omega arith; right = omega arith; below = head e h }, λ c. here c.below)
 
 -- where both have a letter at the common length, one is below the other

@@ -1,6 +1,6 @@
 -- The tests of the two kinds of words decide: inverse-lyndon-test, anti-lyndon-test. On the way, the two kinds of words by
 -- places, the suffixes being drop i w: suffix-below and inverse-lyndon, suffix-loses and anti-lyndon.
-use Rattle.std.specs.Prelude.{◌≡◌, List, [], ◌∷◌, ◌++◌, Bool, true, false, ℕ, zero, suc, ◌<◌, length, drop}
+use Rattle.std.specs.Prelude.{◌≡◌, List, [], ◌∷◌, ◌++◌, Bool, true, false, ℕ, zero, suc, ◌<◌, ◌≤◌, length, drop}
 use Rattle.std.proofs.Common.{arith, length-drop, drop_of_length-le}
 use Rattle.std.proofs.Math.Decide.{dec_lt}
 use Rattle.words.specs.Words.{◌≪◌, done, proper, ◌<ₗ◌, ◌≺◌, prefix, mismatch, InverseLyndon, AntiLyndon}
@@ -17,7 +17,7 @@ every-suffix-test P test d [] = holds (λ i h. absurd (omega arith))
 every-suffix-test P test d (a ∷ v) = go (d (a ∷ v)) (every-suffix-test P test d v)
   where
     rest : {b : Bool} → P (a ∷ v) → Decides ((i : ℕ) → i < length v → P (drop i v)) b → Decides ((i : ℕ) → i < length (a ∷ v) → P (drop i (a ∷ v))) b
-    rest p (holds f) = holds (λ i. elim i [ zero ↦ λ l. p | suc j ↦ λ l. f j (omega arith) ])
+    rest p (holds f) = holds (λ i. elim i as (λ k. k < length (a ∷ v) → P (drop k (a ∷ v))) [ zero ↦ λ l. p | suc j ↦ λ l. f j (omega arith) ])
     rest p (fails n) = fails (λ f. n (λ i l. f (suc i) (omega arith)))
 
     go : {t : Bool} → Decides (P (a ∷ v)) t → Decides ((i : ℕ) → i < length v → P (drop i v)) (every_suffix test v)
@@ -28,7 +28,7 @@ every-suffix-test P test d (a ∷ v) = go (d (a ∷ v)) (every-suffix-test P tes
 proper-suffix-test : (P : List ℕ → Type 0) (test : List ℕ → Bool) → ((s : List ℕ) → Decides (P s) (test s)) → (a : ℕ) (v : List ℕ)
     → Decides ((u s : List ℕ) → u ++ s ≡ a ∷ v → 0 < length u → 0 < length s → P s) (every_suffix test v)
 proper-suffix-test P test d a v = decides-map
-    (λ f. by_parts P (a ∷ v) 1 (λ i. elim i [ zero ↦ λ p l. absurd (omega arith) | suc j ↦ λ p l. f j (omega arith) ]))
+    (λ f. by_parts P (a ∷ v) 1 (λ i. elim i as (λ k. 1 ≤ k → k < length (a ∷ v) → P (drop k (a ∷ v))) [ zero ↦ λ p l. absurd (omega arith) | suc j ↦ λ p l. f j (omega arith) ]))
     (λ f i l. by-places P (a ∷ v) 1 f (suc i) (omega arith) (omega arith))
     (every-suffix-test P test d v)
 

@@ -50,7 +50,7 @@ common-agree (a ∷ x) (b ∷ y) = go (eqb-test a b) (common-agree x y)
       matched = record {
         left = omega (arith, g.matched.left);
         right = omega (arith, g.matched.right);
-        equal = λ t. elim t [ zero ↦ λ h. e | suc s ↦ λ h. g.matched.equal s (omega arith) ];
+        equal = λ t. elim t as (λ s. s < suc (common_length_of x y) → get_or (a ∷ x) s 0 ≡ get_or (b ∷ y) s 0) [ zero ↦ λ h. e | suc s ↦ λ h. g.matched.equal s (omega arith) ];
       };
       differ = λ h k. g.differ (omega arith) (omega arith);
     }

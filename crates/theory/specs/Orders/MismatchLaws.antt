@@ -4,7 +4,7 @@ use Rattle.std.proofs.Common.{ap, lt_trans, arith}
 use Prim.Native.Nat.{ℕ, zero, suc, ◌≤◌, ◌<◌, Ordering}
 use Rattle.words.specs.Words.{◌≪◌, here, there, ◌⊑◌, done, step, ◌⊏◌, proper, Outcome, outcome_of}
 use Rattle.theory.specs.Orders.Decisions.{Ordered, lt, eq, gt, ordered}
-use Rattle.theory.specs.Orders.PrefixLaws.{⊑_refl, take-⊑-next}
+use Rattle.theory.specs.Orders.PrefixLaws.{⊑_refl, ⊑-parts, take-⊑-next}
 
 pub ≪-trans : {x y z : List ℕ} → x ≪ y → y ≪ z → x ≪ z
 ≪-trans (here h) (here k) = here (lt_trans h k)
@@ -12,10 +12,15 @@ pub ≪-trans : {x y z : List ℕ} → x ≪ y → y ≪ z → x ≪ z
 ≪-trans (there s) (here k) = here k
 ≪-trans (there s) (there t) = there (≪-trans s t)
 
+-- past an equal first letter
+pub ≪-tail : {a b : ℕ} {x y : List ℕ} → a ≡ b → (a ∷ x) ≪ (b ∷ y) → x ≪ y
+≪-tail e (here h) = absurd (omega arith)
+≪-tail e (there t) = t
+
 -- a mismatch excludes a prefix
 pub ≪-not-⊑ : {x y : List ℕ} → x ≪ y → x ⊑ y → ⊥
-≪-not-⊑ (here h) (step p) = omega arith
-≪-not-⊑ (there t) (step p) = ≪-not-⊑ t p
+≪-not-⊑ (here h) p = let e = ⊑-parts p in omega (arith, e.0)
+≪-not-⊑ (there t) p = ≪-not-⊑ t (⊑-parts p).1
 
 pub ≪-asym : {x y : List ℕ} → x ≪ y → y ≪ x → ⊥
 ≪-asym h k = ≪-not-⊑ (≪-trans h k) (⊑_refl _)
@@ -41,8 +46,7 @@ pub ≪-under : (p : List ℕ) {x y : List ℕ} → x ≪ y → (p ++ x) ≪ (p 
 
 pub ≪-cancel : (p : List ℕ) {x y : List ℕ} → (p ++ x) ≪ (p ++ y) → x ≪ y
 ≪-cancel [] h = h
-≪-cancel (a ∷ p) (here h) = absurd (omega arith)
-≪-cancel (a ∷ p) (there h) = ≪-cancel p h
+≪-cancel (a ∷ p) h = ≪-cancel p (≪-tail refl h)
 
 -- ---- letters
 
@@ -60,8 +64,8 @@ take-≪-larger k n w l h x = ≪-extend (≪-under (take k w) (here x)) (take-�
 -- y, which begins with x, is below x ++ b ∷ []: its next letter is below b
 pub ≪-last : {x y : List ℕ} {b : ℕ} → x ⊑ y → y ≪ (x ++ b ∷ []) → (length x < length y) × (get_or y (length x) 0 < b)
 ≪-last done (here h) = (omega arith, h)
-≪-last (step p) (here h) = absurd (omega arith)
-≪-last (step p) (there h) = let q = ≪-last p h in (omega (arith, q.0), q.1)
+≪-last done (there h) = elim h [ ]
+≪-last (step p) h = let q = ≪-last p (≪-tail refl h) in (omega (arith, q.0), q.1)
 
 -- ---- how two words compare
 

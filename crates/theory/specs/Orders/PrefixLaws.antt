@@ -11,6 +11,10 @@ pub ⊑_trans : {x y z : List ℕ} → x ⊑ y → y ⊑ z → x ⊑ z
 ⊑_trans done k = done
 ⊑_trans (step h) (step k) = step (⊑_trans h k)
 
+-- the first letters are equal, and the rest is a prefix of the rest
+pub ⊑-parts : {a b : ℕ} {x y : List ℕ} → (a ∷ x) ⊑ (b ∷ y) → (a ≡ b) × (x ⊑ y)
+⊑-parts (step h) = (refl, h)
+
 pub ⊑-length : {x y : List ℕ} → x ⊑ y → length x ≤ length y
 ⊑-length done = zero-le
 ⊑-length (step h) = suc-le-suc (⊑-length h)
