@@ -11,7 +11,7 @@ use lib.Seq.{take_at, drop_at, drop-drop, length-take-le}
 use lib.Dec.{eqb}
 use Rattle.words.specs.Separated.{separated_icfl_ends}
 use Rattle.words.specs.Pairs.{separated_pairs}
-use Rattle.theory.specs.Stretches.RecordPairs.{pairs-entries}
+use Rattle.theory.proofs.Stretches.RecordPairs.{pairs-entries}
 use Rattle.buffers.specs.Buffers.{cleared, written}
 use Rattle.buffers.proofs.BufferLaws.{cleared-twice}
 use Rattle.checks.specs.Lines.{Line, Door, tried, decided}

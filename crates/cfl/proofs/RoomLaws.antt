@@ -6,8 +6,8 @@ use native.Mathlib.Omega.{arith}
 use borrow.Author.Tests.{le-ltb}
 use lib.ListN.{length}
 use Rattle.words.specs.Separated.{separated_cfl_in_ends}
-use Rattle.theory.specs.Places.EndsRise.{rises-few}
-use Rattle.theory.specs.Stretches.Factors.{separated-cfl-in-ends-rise}
+use Rattle.theory.proofs.Places.EndsRise.{rises-few}
+use Rattle.theory.proofs.Stretches.Factors.{separated-cfl-in-ends-rise}
 use Rattle.checks.specs.Lines.{tried}
 use Rattle.checks.specs.declared.Checked.TheVariants.{Passed}
 use Rattle.checks.proofs.LineLaws.{all_pass}

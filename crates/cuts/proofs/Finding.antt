@@ -10,7 +10,8 @@ use Rattle.buffers.proofs.BufferLaws.{kept-past}
 use Rattle.buffers.proofs.PartLaws.{rest, rest-is}
 use Rattle.words.specs.declared.Break.{Break}
 use Rattle.theory.specs.Stretches.CutSteps.{is_beside_separator, unless_beside, cut_at, CutBy}
-use Rattle.theory.specs.Stretches.Cuts.{Cuts, last, cut, breaks_among, record-breaks}
+use Rattle.theory.specs.Stretches.Cuts.{Cuts, last, cut, breaks_among}
+use Rattle.theory.proofs.Stretches.Cuts.{record-breaks}
 use Rattle.extension.specs.Extension.{TestRoom}
 use Rattle.cuts.specs.declared.Cut.{Cut}
 use Rattle.cuts.specs.Cutting.{CutRoom, FirstCut, notes_of, CutsFound}

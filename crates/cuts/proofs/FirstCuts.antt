@@ -7,7 +7,8 @@ use lib.ListN.{length, get_or}
 use types.Run.{OneOf}
 use denote.Enum.Declared.{tag_of}
 use Rattle.words.specs.Separated.{separator}
-use Rattle.theory.specs.Stretches.CutSteps.{CutBy, Uncut, separator-cut, separator-last, letter-cut, letter-last}
+use Rattle.theory.specs.Stretches.CutSteps.{CutBy, Uncut}
+use Rattle.theory.proofs.Stretches.CutSteps.{separator-cut, separator-last, letter-cut, letter-last}
 use Rattle.extension.specs.declared.Extension.{Extension}
 use Rattle.extension.specs.Extension.{test_says, Verdict}
 use Rattle.extension.specs.contracts.Extension.{the_type}

@@ -5,7 +5,7 @@ use Rattle.std.proofs.Common.{◌∙◌, arith}
 use Rattle.std.proofs.lemmas.Bool.{lt-leb}
 use Rattle.words.specs.Separated.{separated_icfl_ends}
 use Rattle.words.specs.Pairs.{separated_pairs, ends_of}
-use Rattle.theory.specs.Stretches.RecordPairs.{pairs-ends}
+use Rattle.theory.proofs.Stretches.RecordPairs.{pairs-ends}
 use Rattle.checks.specs.Lines.{Door, tried}
 use Rattle.checks.specs.Answers.{number_of}
 use Rattle.checks.specs.declared.Checked.TheVariants.{Passed}

@@ -13,7 +13,7 @@ use lib.Dec.{eqb}
 use Rattle.words.specs.Words.{most_letters}
 use Rattle.words.specs.Separated.{separated_icfl_ends}
 use Rattle.words.specs.Pairs.{separated_pairs}
-use Rattle.theory.specs.Stretches.RecordPairs.{pairs-entries}
+use Rattle.theory.proofs.Stretches.RecordPairs.{pairs-entries}
 use Rattle.buffers.specs.Buffers.{cleared, written}
 use Rattle.buffers.proofs.BufferLaws.{cleared-kept}
 use Rattle.buffers.proofs.PartLaws.{part, part-is}

@@ -8,7 +8,8 @@ use borrow.Author.Tests.{le-leb, lt-leb, lt-ltb, le-ltb}
 use lib.ListN.{length, get_or}
 use Rattle.words.specs.Words.{common_length_of}
 use Rattle.words.specs.Factorizations.{cfl_in}
-use Rattle.theory.specs.Judging.LastFactor.{last_word, last-factor, last-anti-lyndon}
+use Rattle.theory.specs.Judging.LastFactor.{last_word}
+use Rattle.theory.proofs.Judging.LastFactor.{last-factor, last-anti-lyndon}
 use Rattle.theory.specs.Judging.Judge.{judged_by, judged_pair}
 
 module _ (m n : List ℕ) (j l : ℕ) (e : l ≡ common_length_of m n) where

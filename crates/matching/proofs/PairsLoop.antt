@@ -13,8 +13,9 @@ use Rattle.words.specs.Words.{most_letters}
 use Rattle.words.specs.Separated.{UpToSeparator, separated_cfl_in_ends}
 use Rattle.words.specs.Pairs.{ends_of, separated_pairs}
 use Rattle.theory.specs.Orders.Decisions.{Decides, holds, fails, decides-true, decides-false}
-use Rattle.theory.specs.Judging.Judge.{first_or, judged_turn}
-use Rattle.theory.specs.Judging.PairsFit.{PairsFit, done, more, fit-end, fit-rises, fit-judged, fit_count, fit-rest, fit-most, fit-own, own-fit}
+use Rattle.theory.specs.Judging.Judge.{judged_turn}
+use Rattle.theory.proofs.Judging.Judge.{first_or}
+use Rattle.theory.proofs.Judging.PairsFit.{PairsFit, done, more, fit-end, fit-rises, fit-judged, fit_count, fit-rest, fit-most, fit-own, own-fit}
 use Rattle.judging.specs.Judging.{Turn}
 use Rattle.parsing.specs.Parsing.{PairsLeft, PairRead}
 use Rattle.parsing.specs.declared.Pair.{Pair}

@@ -7,7 +7,7 @@ use native.Mathlib.Omega.{arith}
 use borrow.Author.Tests.{le-ltb}
 use lib.ListN.{length}
 use Rattle.words.specs.Runs.{separated_runs}
-use Rattle.theory.specs.Stretches.SeparatedRuns.{separated-runs-fewer}
+use Rattle.theory.proofs.Stretches.SeparatedRuns.{separated-runs-fewer}
 use Rattle.checks.specs.Lines.{tried, result_line}
 use Rattle.checks.specs.declared.Checked.{Checked}
 use Rattle.checks.specs.declared.Checked.TheVariants.{Passed}

@@ -7,11 +7,5 @@
 --   JudgeSteps      what its code leans on
 --   PairsFit        a list of pairs by the judge and the counts of its parts (own-fit, fit-own)
 --   JudgeExamples   a list for each fault
-pub mod EndsUnique
 pub mod LastFactor
-pub mod Faults
 pub mod Judge
-pub mod Verdicts
-pub mod JudgeSteps
-pub mod PairsFit
-pub mod JudgeExamples

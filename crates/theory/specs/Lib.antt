@@ -42,7 +42,6 @@ pub mod Lyndon
 pub mod Icfl
 pub mod Uniqueness
 pub mod Breaks
-pub mod CflIn
 pub mod Places
 pub mod Scan
 pub mod Table

@@ -4,4 +4,3 @@
 --   AntiLyndonLaws  products of anti-Lyndon words, and the longest anti-Lyndon prefix
 pub mod WordTests
 pub mod Suffixes
-pub mod AntiLyndonLaws

@@ -8,10 +8,4 @@
 --   Ranges          two suffixes over a range that ends at such a place
 --   Demand3         demand 3 whole (demand-3)
 pub mod LinkedLaws
-pub mod FirstSuffixes
-pub mod Ends
 pub mod EndsRise
-pub mod PairedLists
-pub mod Parts
-pub mod Ranges
-pub mod Demand3

@@ -11,13 +11,7 @@
 --   Insertion      runs put into their order one after another
 --   RunsFewer      all runs are found so; there are fewer of them than letters (runs-fewer)
 pub mod RisingLaws
-pub mod RepeatsTo
-pub mod RunsAre
-pub mod RunsMap
 pub mod RunSuffixes
-pub mod Roots
 pub mod TwoOrders
 pub mod Found
-pub mod Serving
 pub mod Insertion
-pub mod RunsFewer

@@ -17,19 +17,6 @@
 --   RecordPairs        the pairs of a record: what request 108 says of them (pairs-are)
 --   SeparatedLimits    its first sentence fails over separators, and with letters above them
 pub mod Unmarked
-pub mod Separation
-pub mod Factors
-pub mod StretchBreaks
-pub mod StretchEnds
-pub mod Places
-pub mod StretchRuns
-pub mod SeparatedRuns
-pub mod TableEntries
-pub mod CflInSteps
-pub mod FailingPrefixes
 pub mod CutSteps
 pub mod Cuts
-pub mod SeparatedDemand3
-pub mod StrictInside
-pub mod RecordPairs
 pub mod SeparatedLimits

@@ -2,7 +2,7 @@
 use borrow.Author.Rules.{rules}
 use native.Mathlib.Omega.{arith}
 use Prim.Native.Nat.{◌-◌}
-use Rattle.theory.specs.Scan.ScannedBorders.{Walk}
+use Rattle.theory.proofs.Scan.ScannedBorders.{Walk}
 use Rattle.theory.specs.Scan.Scanned.{Scanned}
 use lib.ListN.{get_or}
 use Rattle.extension.proofs.ScanLaws.{walk-starts, entry, walk-further, walk-found, walk_none}

@@ -2,7 +2,7 @@
 use borrow.Author.Rules.{rules}
 use native.Mathlib.Omega.{arith}
 use mathlib.Core.Path.{sym, ◌∙◌}
-use Rattle.theory.specs.Repetitions.Found.{period-same, period-other}
+use Rattle.theory.proofs.Repetitions.Found.{period-same, period-other}
 use Rattle.common.specs.Orders.{most_byte}
 use Rattle.found.proofs.period_at.Statement.{statement}
 use Rattle.found.proofs.period_at.Tie as tie

@@ -5,7 +5,7 @@ use Prim.Native.Nat.{◌+◌, ◌≤◌}
 use lib.ListN.{length}
 use borrow.Author.Tests.{not-true, not-false}
 use Rattle.theory.specs.Orders.Decisions.{decides-true, decides-false}
-use Rattle.theory.specs.Repetitions.TwoOrders.{UpTo}
+use Rattle.theory.proofs.Repetitions.TwoOrders.{UpTo}
 use Rattle.common.specs.Orders.{most_byte}
 use Rattle.found.proofs.FoundLaws.{none_left, far-left, too_short, not-counted, one_found, right-inside, period-inside, left-inside}
 use Rattle.found.proofs.run_at.Statement.{statement}

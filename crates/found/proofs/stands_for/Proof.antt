@@ -1,6 +1,6 @@
 -- The test of the definition.
 use borrow.Author.Rules.{rules}
-use Rattle.theory.specs.Repetitions.Found.{counts-test}
+use Rattle.theory.proofs.Repetitions.Found.{counts-test}
 use Rattle.found.proofs.stands_for.Statement.{statement}
 use Rattle.found.proofs.stands_for.Tie as tie
 

@@ -1,6 +1,6 @@
 -- Its three tests are those of the order.
 use borrow.Author.Rules.{rules}
-use Rattle.theory.specs.Repetitions.Insertion.{earlier-test}
+use Rattle.theory.proofs.Repetitions.Insertion.{earlier-test}
 use Rattle.inserting.specs.Inserting.{run_from}
 use Rattle.inserting.proofs.comes_later.Statement.{statement}
 use Rattle.inserting.proofs.comes_later.Tie as tie

@@ -5,7 +5,7 @@ use native.Mathlib.Omega.{arith}
 use Prim.Native.Nat.{◌+◌, ◌≤◌, ◌<◌}
 use lib.ListN.{length, get_or}
 use Rattle.theory.specs.Orders.Decisions.{decides-true, decides-false}
-use Rattle.theory.specs.Repetitions.TwoOrders.{UpTo, longest-inside}
+use Rattle.theory.proofs.Repetitions.TwoOrders.{UpTo, longest-inside}
 use Rattle.common.specs.Orders.{most_byte}
 use Rattle.longest.proofs.LongestLaws.{length-in, length-other}
 use Rattle.longest.proofs.length_in.Statement.{statement}

@@ -5,7 +5,8 @@ use native.Mathlib.Omega.{arith}
 use lib.ListN.{length}
 use borrow.Author.Tests.{not-true, not-false}
 use Rattle.theory.specs.Orders.Decisions.{decides-true, decides-false}
-use Rattle.theory.specs.Table.Merging.{Merged, merged-letter}
+use Rattle.theory.specs.Table.Merging.{Merged}
+use Rattle.theory.proofs.Table.Merging.{merged-letter}
 use Rattle.common.specs.Orders.{in_order}
 use Rattle.common.proofs.InOrderLaws.{in-order-length}
 use Rattle.longest.proofs.LongestLaws.{turn-fits, turn-joins, turn-stops, turns-end}

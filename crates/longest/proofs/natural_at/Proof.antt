@@ -3,7 +3,7 @@ use borrow.Author.Rules.{rules}
 use native.Mathlib.Omega.{arith}
 use Prim.Native.Nat.{◌+◌, ◌≤◌}
 use lib.ListN.{length, get_or}
-use Rattle.theory.specs.Repetitions.TwoOrders.{UpTo, longest-inside}
+use Rattle.theory.proofs.Repetitions.TwoOrders.{UpTo, longest-inside}
 use Rattle.common.specs.Orders.{most_byte}
 use Rattle.longest.proofs.LongestLaws.{next-alone, same-alone}
 use Rattle.longest.proofs.natural_at.Statement.{statement}

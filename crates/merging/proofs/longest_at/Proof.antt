@@ -6,7 +6,8 @@ use lib.ListN.{get_or}
 use borrow.Author.Tests.{not-true, not-false}
 use Rattle.theory.specs.Orders.Decisions.{decides-true, decides-false}
 use Rattle.words.specs.Separated.{separator}
-use Rattle.theory.specs.Table.Merging.{Merged, merged-letter}
+use Rattle.theory.specs.Table.Merging.{Merged}
+use Rattle.theory.proofs.Table.Merging.{merged-letter}
 use Rattle.merging.proofs.MergeLaws.{Merging, turn-fits, turn_alone, turns-end, letter-joins, letter-stops}
 use Rattle.merging.proofs.longest_at.Statement.{statement}
 use Rattle.merging.proofs.longest_at.Tie as tie

@@ -1,7 +1,7 @@
 -- Three entries for each letter but one are enough (the "Runs" theorem); else the runs are counted.
 use borrow.Author.Rules.{rules}
 use native.Mathlib.Omega.{arith}
-use Rattle.theory.specs.Stretches.SeparatedRuns.{separated-runs-few}
+use Rattle.theory.proofs.Stretches.SeparatedRuns.{separated-runs-few}
 use Rattle.runs.proofs.RoomLaws.{room-at-once, count-asks, room-counted}
 use Rattle.runs.proofs.check_room.Statement.{statement}
 use Rattle.runs.proofs.check_room.Tie as tie

@@ -4,7 +4,7 @@ use mathlib.Core.Path.{◌≡◌, refl, ◌∙◌}
 use Prim.Native.Nat.{◌-◌}
 use native.Mathlib.Omega.{arith}
 use lib.ListN.{length}
-use Rattle.theory.specs.Repetitions.TwoOrders.{UpTo}
+use Rattle.theory.proofs.Repetitions.TwoOrders.{UpTo}
 use Rattle.common.specs.Orders.{most_byte}
 use Rattle.walking.proofs.WalkLaws.{Walking, stretch-fills, walk_begins, walk-asks, walk_turn, walk_ends}
 use Rattle.walking.proofs.walk.Statement.{statement}

@@ -7,7 +7,7 @@ use Prim.Native.Nat.{◌+◌}
 use lib.ListN.{get_or}
 use Rattle.letters.proofs.OrderLaws.{sign-decides}
 use Rattle.theory.specs.Orders.CommonLength.{Agree}
-use Rattle.theory.specs.Repetitions.TwoOrders.{UpTo}
+use Rattle.theory.proofs.Repetitions.TwoOrders.{UpTo}
 use Rattle.common.specs.Orders.{most_byte}
 use Rattle.common.proofs.BeforeLaws.{agree-first, rest-decides}
 use Rattle.common.proofs.InOrderLaws.{natural-decides, agree-next, parted-decide, whole-fails, prefix_holds, inverse-is}

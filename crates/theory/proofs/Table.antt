@@ -1,0 +1,6 @@
+-- The Lyndon table.
+--   LyndonTableCflIn, LyndonTableNext       its entries by the strict cut and by the next smaller suffix
+--   Merging         the table from right to left: neighbouring anti-Lyndon words make one
+pub mod LyndonTableCflIn
+pub mod LyndonTableNext
+pub mod Merging
