@@ -1,4 +1,6 @@
 //! The scan that the test and both factorizations share: it reads letters as long as what is read is inverse Lyndon.
+#![tactic(auto)]
+
 ghost use Rattle.std.specs.Prelude.{◌≡◌};
 ghost use Rattle.scan.specs.State.{start_state, step_state, Short, Resumes, Rests};
 
