@@ -1,10 +1,7 @@
 -- There is no separator before the place that is looked at.
-use borrow.Author.Rules.{rules}
 use Prim.Native.Nat.{◌-◌}
-use native.Mathlib.Omega.{arith}
 use lib.ListN.{length}
 use Rattle.walking.specs.Walking.{UnmarkedTo}
-use Rattle.walking.proofs.WalkLaws.{stretch-begins, stretch-turn}
 use Rattle.walking.proofs.stretch_end.Given as goal
 
 abbrev pub invariant-loop-end : goal.invariant-loop-end

@@ -1,8 +1,5 @@
 -- What is found at the places before i is in the list; a turn adds what is found at i.
-use borrow.Author.Rules.{rules}
-use Prim.Native.Nat.{◌-◌}
-use lib.ListN.{length}
-use Rattle.walking.proofs.VisitLaws.{Visiting, visit-begins, visit-asks, visit-turn, visit-ends}
+use Rattle.walking.proofs.VisitLaws.{visit-begins, visit-asks, visit-turn}
 use Rattle.walking.proofs.visit.Goals as goal
 
 pub loop-i-init : goal.loop-i-init
@@ -16,8 +13,5 @@ visit_place-total-requires c =
 pub loop-i-preserved : goal.loop-i-preserved
 loop-i-preserved c =
     let more = c.loop-i-test.true in
-    visit-turn c.requires c.loop-i.invariant more c.visit_place-total.auto.1.1.1.1.0
+    visit-turn c.requires c.loop-i.invariant more c.visit_place-total.auto.runs
     c.visit_place-total.ensures
-
-pub returns : goal.returns
-returns c = visit-ends c.requires c.loop-i.invariant c.loop-i-test.false

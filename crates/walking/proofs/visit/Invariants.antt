@@ -1,8 +1,7 @@
 -- What is found at the places before i is in the list; a turn adds what is found at i.
-use borrow.Author.Rules.{rules}
 use Prim.Native.Nat.{◌-◌}
 use lib.ListN.{length}
-use Rattle.walking.proofs.VisitLaws.{Visiting, visit-begins, visit-asks, visit-turn, visit-ends}
+use Rattle.walking.proofs.VisitLaws.{Visiting}
 use Rattle.walking.proofs.visit.Given as goal
 
 abbrev pub invariant-loop-i : goal.invariant-loop-i

@@ -1,44 +1,33 @@
 -- The runs of the stretches before `from` are in the list; a turn adds those of the stretch that begins there.
-use borrow.Author.Rules.{rules}
-use mathlib.Core.Path.{◌≡◌, refl, ◌∙◌}
-use Prim.Native.Nat.{◌-◌}
+use mathlib.Core.Path.{refl, ◌∙◌}
+use mathlib.Core.List.{List}
+use mir.Syntax.{w8}
+use mir.Val.{Fits}
+use Prim.Native.Nat.{ℕ}
 use native.Mathlib.Omega.{arith}
-use lib.ListN.{length}
+use lib.ListN.{get_or}
 use Rattle.theory.proofs.Repetitions.TwoOrders.{UpTo}
 use Rattle.common.specs.Orders.{most_byte}
-use Rattle.walking.proofs.WalkLaws.{Walking, stretch-fills, walk_begins, walk-asks, walk_turn, walk_ends}
+use Rattle.walking.proofs.WalkLaws.{walk_begins, walk-asks, walk_turn, walk_ends}
 use Rattle.walking.proofs.walk.Goals as goal
 
--- HELPER bytes-at : (c : tie.After-stretch-end invariant-loop decreases-loop) → UpTo most_byte c.before.before.before.before.before.before.args.word.now
--- HELPER bytes-at c k = omega (arith, (c.before.before.before.before.before.shared-slice-known.given k).fits)
+-- a word of bytes
+bytes : (w : List ℕ) → ((k : ℕ) → Fits w8 (get_or w k 0)) → UpTo most_byte w
+bytes w f k = omega (arith, (f k).fits)
 
 pub loop-from-init : goal.loop-from-init
 loop-from-init c = (refl, walk_begins _ _ _)
 
-pub stretch_end-end-requires : goal.stretch_end-end-requires
-stretch_end-end-requires c = c.loop-from-test.true
-
-pub fill_longest-requires : goal.fill_longest-requires
-fill_longest-requires c =
-    stretch-fills c.stretch_end-end.ensures c.requires c.loop-from.invariant.0
-
 pub visit-count-requires : goal.visit-count-requires
 visit-count-requires c =
-    walk-asks c.loop-from.invariant.1 c.stretch_end-end.ensures (bytes-at at-end) c.requires c.fill_longest.ensures
-
-pub overflow_add-from : goal.overflow_add-from
-overflow_add-from c =
-    omega (arith, c.stretch_end-end.ensures.free.inside, c.requires.short)
-
-pub loop-from-smaller : goal.loop-from-smaller
-loop-from-smaller c =
-    omega (arith, c.stretch_end-end.ensures.free.after, c.loop-from-test.true)
+    let asked = walk-asks c.loop-from.invariant.1 c.stretch_end-end.ensures (bytes _ c.type_inv.word) c.requires c.fill_longest.ensures in
+    record { short = omega (arith, asked.short); filled = asked.filled; few = asked.few; room = asked.room; in_order = asked.in_order }
 
 pub loop-from-preserved : goal.loop-from-preserved
 loop-from-preserved c =
     let inv = c.loop-from.invariant in (
-      c.fill_longest.auto.1.0 ∙ inv.0,
-      walk_turn inv.1 c.stretch_end-end.ensures (bytes-at at-end) c.visit-count.ensures c.visit-count.auto.1.1.1.0,
+      c.fill_longest.auto.longest ∙ inv.0,
+      walk_turn inv.1 c.stretch_end-end.ensures (bytes _ c.type_inv.word) c.visit-count.ensures c.visit-count.auto.runs,
     )
 
 pub returns : goal.returns
