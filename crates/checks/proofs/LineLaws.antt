@@ -31,6 +31,13 @@ IsPassed k = OneOf (0 ∷ []) (tag_of the_type k)
 abbrev pub IsRefused : Checked → Type 0
 IsRefused k = OneOf (1 ∷ []) (tag_of the_type k)
 
+-- the two arms, by what a step of the code says of k there
+pub passed-arm : {k : Checked} → k ≡ Passed → IsPassed k
+passed-arm e = rw e refl
+
+pub refused-arm : {k : Checked} {number : ℕ} → k ≡ Refused number → IsRefused k
+refused-arm e = rw e refl
+
 is-passed : (k : Checked) → IsPassed k → k ≡ Passed
 is-passed Passed h = refl
 is-passed (Refused number) h = let z : ◌≡◌ {A = ℕ} 1 0 = h in absurd (omega arith)
