@@ -5,14 +5,14 @@ use Prim.Native.Nat.{ℕ}
 use native.Mathlib.Omega.{arith}
 use Rattle.buffers.proofs.PartLaws.{part-is}
 use Rattle.checks.specs.Answers.{number_of}
-use Rattle.checks.proofs.LineLaws.{refused-arm, refused}
+use Rattle.checks.proofs.LineLaws.{refused}
 use Rattle.reading.proofs.FactorLaws.{placed}
 use Rattle.reading.proofs.part_at.Goals as goal
 
 pub returns-in_default : goal.returns-in_default
 returns-in_default c = record {
   number_is = c.number.ensures ∙ ap number_of c.admit_factor-admitted.ensures;
-  part-is = refused {A = List ℕ} _ _ (λ (n : ℕ). []) c.admit_factor-admitted.ensures (refused-arm c.in_default.is) c.number.ensures;
+  part-is = refused {A = List ℕ} _ _ (λ (n : ℕ). []) c.admit_factor-admitted.ensures c.in_default.not-Passed c.number.ensures;
 }
 
 pub factor_from-from-requires : goal.factor_from-from-requires
