@@ -1,4 +1,6 @@
 //! The Lyndon factorization in the inverse order (paper 01: the strict cut).
+#![tactic(auto)]
+
 ghost use Rattle.std.specs.Prelude.{◌≡◌, [], ◌≤◌, length};
 ghost use Rattle.words.specs.Words.{most_letters};
 ghost use Rattle.checks.specs.Lines.{tried, record_lines, Accepted};

@@ -12,11 +12,8 @@ use native.Mathlib.Omega.{arith}
 use lib.Dec.{eqb, ltb}
 use lib.ListN.{length, take, drop, length-append}
 use lib.Seq.{take_at}
-use types.Run.{OneOf}
-use denote.Enum.Declared.{tag_of}
 use borrow.Author.Tests.{eqb-true, ltb-true, not-true}
 use Rattle.buffers.specs.Buffers.{written}
-use Rattle.checks.specs.contracts.Checked.{the_type}
 use Rattle.checks.specs.declared.Checked.{Checked}
 use Rattle.checks.specs.declared.Checked.TheVariants.{Passed, Refused}
 use Rattle.checks.specs.declared.Counted.{Counted}
@@ -26,30 +23,22 @@ use Rattle.checks.specs.Answers.{number_of, numbered, first_of, Says, gives, ref
 -- ---- a check k: the two branches of `let Checked::Passed = k else`
 
 abbrev pub IsPassed : Checked → Type 0
-IsPassed k = OneOf (0 ∷ []) (tag_of the_type k)
+IsPassed k = k ≡ Passed
 
 abbrev pub IsRefused : Checked → Type 0
-IsRefused k = OneOf (1 ∷ []) (tag_of the_type k)
-
-is-passed : (k : Checked) → IsPassed k → k ≡ Passed
-is-passed Passed h = refl
-is-passed (Refused number) h = let z : ◌≡◌ {A = ℕ} 1 0 = h in absurd (omega arith)
+IsRefused k = ¬ (k ≡ Passed)
 
 -- a refusal is what it stands for, whatever the result would have been
 is-refused : {A : Type 0} (k : Checked) (result : A) (refusal : ℕ → A) → IsRefused k → refusal (number_of k) ≡ decided k result refusal
-is-refused Passed result refusal h = let z : ◌≡◌ {A = ℕ} 0 1 = h in absurd (omega arith)
+is-refused Passed result refusal h = absurd (h refl)
 is-refused (Refused number) result refusal h = refl
 
 -- a check says one of the two
 pub not-both : {k : Checked} {e : ℕ} → k ≡ Refused e → ¬ (k ≡ Passed)
 not-both x y = let b : ◌≡◌ {A = ℕ} 0 1 = cc in absurd (omega arith)
 
-not-passed : (k : Checked) → IsRefused k → ¬ (k ≡ Passed)
-not-passed Passed h p = let z : ◌≡◌ {A = ℕ} 0 1 = h in absurd (omega arith)
-not-passed (Refused number) h p = not-both refl p
-
 pub passed : (lines : List Line) {k : Checked} → k ≡ tried lines → IsPassed k → tried lines ≡ Passed
-passed lines {k} e h = sym e ∙ is-passed k h
+passed lines e h = sym e ∙ h
 
 -- m is the number that is passed up
 pub refused : {A : Type 0} (lines : List Line) (result : A) (refusal : ℕ → A) {k : Checked} {m : ℕ}
@@ -71,7 +60,7 @@ pub refused-first : (lines more : List Line) {k : Checked} → k ≡ tried lines
 refused-first lines more {k} e h = both lines more (same k h) e refl
   where
     same : (k : Checked) → IsRefused k → k ≡ first_of k (tried more)
-    same Passed h = let z : ◌≡◌ {A = ℕ} 0 1 = h in absurd (omega arith)
+    same Passed h = absurd (h refl)
     same (Refused number) h = refl
 
 pub passed_first : (lines more : List Line) {k : Checked} → tried lines ≡ Passed → k ≡ tried more → k ≡ tried (lines ++ more)
@@ -115,7 +104,7 @@ Unmet (number when met ∷ lines) = (met ≡ false) × Unmet lines
 pub unmet : (lines : List Line) → tried lines ≡ Passed → Unmet lines
 unfolding tried
 unmet [] e = search
-unmet (number when true ∷ lines) e = let z : ◌≡◌ {A = ℕ} 1 0 = ap (tag_of the_type) e in absurd (omega arith)
+unmet (number when true ∷ lines) e = cc
 unmet (number when false ∷ lines) e = (refl, unmet lines e)
 
 pub all_pass : (lines : List Line) → Unmet lines → tried lines ≡ Passed
@@ -181,7 +170,7 @@ pub refused-tested : (test : ℕ → Bool) (lines : List Line) {k : Checked} {m 
 refused-tested test lines {k} {m} every e h z = go (number-tested test lines every)
   where
     go : (tried lines ≡ Passed) ⊎ (test (number_of (tried lines)) ≡ true) → test m ≡ true
-    go (inl p) = absurd (not-passed k h (e ∙ p))
+    go (inl p) = absurd (h (e ∙ p))
     go (inr t) = ap test (z ∙ ap number_of e) ∙ t
 
 abbrev pub among : List ℕ → ℕ → Bool

@@ -1,5 +1,7 @@
 //! The table of refusals, paper 01's lines and those that requests add: a function for each line. A call puts its
 //! admission together from these by `then`, in the table's order, and passes a refusal up with its number unchanged.
+#![tactic(auto)]
+
 ghost use Rattle.std.specs.Prelude.{◌≡◌, [], ◌∷◌};
 ghost use Rattle.checks.specs.Lines.{◌when◌, tried};
 ghost use Rattle.checks.specs.Lines.{record_lines, work_line, result_line, range_line, start_line, pairs_line, number_line, mark_line, record_ends_line};

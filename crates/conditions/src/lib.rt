@@ -1,4 +1,6 @@
 //! The conditions of the table of refusals that are looked for in a loop.
+#![tactic(auto)]
+
 ghost use Rattle.std.specs.Prelude.{◌≡◌};
 ghost use Rattle.words.specs.Separated.{has_mark};
 ghost use Rattle.conditions.specs.Conditions.{are_faulty_record_ends};

@@ -1,5 +1,7 @@
 //! The test of a record: is it an inverse Lyndon word, and if not, where does its shortest failing prefix end, and with
 //! which border?
+#![tactic(auto)]
+
 ghost use Rattle.std.specs.Prelude.{◌≡◌, []};
 ghost use Rattle.theory.specs.Scan.ScannedBorders.{ShortestBorder};
 ghost use Rattle.checks.specs.Lines.{tried, record_lines, Accepted};

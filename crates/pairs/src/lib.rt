@@ -1,6 +1,8 @@
 //! A list of pairs in a buffer (request 108): for each part of a record its end, and beside it the number of
 //! anti-Lyndon factors inside. Only this crate knows that a pair is two entries, the end first; calls that read or
 //! write such a list go through it.
+#![tactic(auto)]
+
 ghost use Rattle.std.specs.Prelude.{◌≡◌, ◌*◌, ◌≤◌, ◌<◌, length, get_or};
 ghost use Rattle.buffers.specs.Buffers.{written};
 ghost use Rattle.words.specs.Words.{most_letters};

@@ -1,5 +1,7 @@
 //! The walk over the anti-Lyndon factors of a word (paper 01: its strict pieces), stretch by stretch (request 103), by
 //! Duval's algorithm on the shared scan.
+#![tactic(auto)]
+
 ghost use Rattle.std.specs.Prelude.{◌≡◌, ◌≤◌, length};
 ghost use Rattle.words.specs.Words.{most_letters};
 ghost use Rattle.words.specs.Separated.{separated_cfl_in_ends};

@@ -1,0 +1,6 @@
+use mathlib.Core.Path.{sym}
+use Rattle.theory.proofs.Places.PairedLists.{ends-half}
+use Rattle.pairs.proofs.count.Goals as goal
+
+pub returns : goal.returns
+returns c = sym (ends-half c.args.pairs.now)
