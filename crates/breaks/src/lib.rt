@@ -1,5 +1,7 @@
 //! The ends of a record's factors in the canonical inverse Lyndon factorization: all cuts from left to right, then the
 //! ends from the last to the first. Both stand in the work buffer afterwards.
+#![tactic(auto)]
+
 ghost use Rattle.cuts.specs.Cutting.{CutRoom, Noted};
 ghost use Rattle.breaks.specs.Gathering.{EndsGathered, CutFound};
 

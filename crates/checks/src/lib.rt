@@ -15,7 +15,7 @@ use conditions::{faulty_record_ends, is_marked};
 pub const MOST: usize = 4096;
 
 /// What a check says: passed, or the number of the refusal.
-#[derive(Drop)]
+#[derive(Clone, Copy, Drop)]
 pub enum Checked {
     Passed,
     Refused(u8),

@@ -93,7 +93,8 @@ agree-next (a ∷ u) (b ∷ v) r p q e k = go (common-agree u v)
       matched = record {
         left = omega (arith, g.matched.left, size);
         right = omega (arith, g.matched.right, size);
-        equal = λ t. elim t [ zero ↦ λ h. sym e | suc s ↦ λ h. g.matched.equal s (omega (arith, size)) ];
+        equal = λ t. elim t as (λ j. j < 1 + r → get_or (a ∷ u) j 0 ≡ get_or (b ∷ v) j 0)
+            [ zero ↦ λ h. sym e | suc s ↦ λ h. g.matched.equal s (omega (arith, size)) ];
       };
       differ = let z : 1 + r ≡ suc (common_length_of u v) = omega (arith, size) in rw z (λ h n. g.differ (omega arith) (omega arith));
     }

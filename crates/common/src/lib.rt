@@ -1,5 +1,7 @@
 //! Two words compared: which comes first in the inverse order, and how far they agree. And letters and words in either
 //! order of the letters.
+#![tactic(auto)]
+
 mod orders; // precedes, comes_before: letters and words in either order of the letters
 
 ghost use Rattle.std.specs.Prelude.{◌≡◌};

@@ -4,15 +4,12 @@ use mathlib.Core.List.{List, [], ◌∷◌}
 use Prim.Native.Nat.{ℕ, ◌<◌}
 use native.Mathlib.Omega.{arith}
 use lib.ListN.{length, get_or}
-use types.Run.{OneOf}
-use denote.Enum.Declared.{tag_of}
 use Rattle.words.specs.Separated.{separator}
 use Rattle.theory.specs.Stretches.CutSteps.{CutBy, Uncut}
 use Rattle.theory.proofs.Stretches.CutSteps.{separator-cut, separator-last, letter-cut, letter-last}
 use Rattle.extension.specs.declared.Extension.{Extension}
 use Rattle.extension.specs.Extension.{test_says, Verdict}
-use Rattle.extension.specs.contracts.Extension.{the_type}
-use Rattle.extension.proofs.VerdictLaws.{Fails, fails-told, holds-told}
+use Rattle.extension.proofs.VerdictLaws.{Fails, fails-told, NoneFails, holds-told}
 use Rattle.cuts.specs.declared.Cut.{Cut}
 use Rattle.cuts.specs.Cutting.{FirstCut}
 
@@ -36,7 +33,7 @@ cut-separator w work e n = record { told = more-letters w e n; kept = refl }
 -- ---- a letter below it
 
 module _ (w work work' : List ℕ) (a : Extension) (h : get_or w 0 0 < separator) (v : Verdict w work a work') where
-  pub uncut-letter : OneOf (0 ∷ 2 ∷ []) (tag_of the_type a) → FirstCut w work Cut.None work'
+  pub uncut-letter : NoneFails a → FirstCut w work Cut.None work'
   uncut-letter o = record { told = letter-last w h (holds-told w a o v.answer); kept = v.kept }
 
   pub cut-letter : (l p r : ℕ) → 0 < length w → a ≡ Extension.Failing l p r → FirstCut w work (Cut.After p r) work'

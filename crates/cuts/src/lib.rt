@@ -1,4 +1,6 @@
 //! All cuts of a record from left to right, before any factor is joined; they are noted in the work buffer.
+#![tactic(auto)]
+
 ghost use Rattle.std.specs.Prelude.{◌≡◌, ◌<◌, length};
 ghost use Rattle.extension.specs.Extension.{TestRoom};
 ghost use Rattle.theory.specs.Stretches.CutSteps.{is_beside_separator};

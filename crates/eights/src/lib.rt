@@ -1,4 +1,6 @@
 //! Eight letters at once, as a number of 64 bits. The first of them has the lowest bits (little-endian).
+#![tactic(auto)]
+
 ghost use Rattle.std.specs.Prelude.{◌+◌, ◌≤◌, length};
 ghost use Rattle.eights.specs.Eights.{NumberAt, PairTells};
 

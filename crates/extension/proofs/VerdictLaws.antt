@@ -1,13 +1,10 @@
 -- What an answer tells that says the verdict on v: failing (fails-told), inverse Lyndon (holds-told).
 use mathlib.Core.Path.{◌≡◌, refl}
 use mathlib.Core.Bool.{Bool, true, false}
-use mathlib.Core.Logic.{inl, inr}
 use mathlib.Core.List.{List, [], ◌∷◌}
 use Prim.Native.Nat.{ℕ, ◌+◌, ◌≤◌, ◌<◌}
 use native.Mathlib.Omega.{arith}
 use lib.ListN.{length}
-use types.Run.{OneOf}
-use denote.Enum.Declared.{tag_of}
 use Rattle.words.specs.Words.{InverseLyndon, is_inverse_lyndon}
 use Rattle.words.specs.Factorizations.{failing_length, prefix_length, border_length}
 use Rattle.theory.specs.Orders.Decisions.{decides-true, decides-false}
@@ -18,7 +15,6 @@ use Rattle.theory.specs.Icfl.IcflFactors.{prefix-positive}
 use Rattle.checks.specs.Answers.{gives}
 use Rattle.extension.specs.declared.Extension.{Extension}
 use Rattle.extension.specs.Extension.{test_says, verdict_as, verdict_of}
-use Rattle.extension.specs.contracts.Extension.{the_type}
 
 pub record Fails (v : List ℕ) (l p r : ℕ) : Type 0 where
   pub not : ¬ InverseLyndon v
@@ -51,14 +47,17 @@ fails-told v l p r s e = go (is_inverse_lyndon v) refl e
           upto = omega (arith, (failing-is v s n).inside);
         }
 
-pub holds-told : (v : List ℕ) (a : Extension) → OneOf (0 ∷ 2 ∷ []) (tag_of the_type a) → test_says a ≡ gives (verdict_of v) → InverseLyndon v
+-- a says of no failing prefix
+abbrev pub NoneFails : Extension → Type 0
+NoneFails a = (l p r : ℕ) → a ≡ Extension.Failing l p r → ⊥
+
+pub holds-told : (v : List ℕ) (a : Extension) → NoneFails a → test_says a ≡ gives (verdict_of v) → InverseLyndon v
 unfolding verdict_of
 holds-told v a h e = go (is_inverse_lyndon v) refl a h e
   where
-    go : (t : Bool) → is_inverse_lyndon v ≡ t → (a : Extension) → OneOf (0 ∷ 2 ∷ []) (tag_of the_type a)
+    go : (t : Bool) → is_inverse_lyndon v ≡ t → (a : Extension) → NoneFails a
         → test_says a ≡ gives (verdict_as t (failing_length v) (prefix_length v) (border_length v)) → InverseLyndon v
     go true d a h z = decides-true (inverse-lyndon-test v) d
     go false d Extension.InverseLyndon h z = let b : ◌≡◌ {A = ℕ} 0 1 = cc in absurd (omega arith)
     go false d (Extension.Refused m) h z = let b : ◌≡◌ {A = ℕ} 0 1 = cc in absurd (omega arith)
-    go false d (Extension.Failing l p r) (inl h) z = let b : ◌≡◌ {A = ℕ} 1 0 = h in absurd (omega arith)
-    go false d (Extension.Failing l p r) (inr h) z = let b : ◌≡◌ {A = ℕ} 1 2 = h in absurd (omega arith)
+    go false d (Extension.Failing l p r) h z = absurd (h l p r refl)

@@ -1,4 +1,6 @@
 //! The runs in the result buffer, three entries each, kept in order while one after another is found.
+#![tactic(auto)]
+
 ghost use Rattle.std.specs.Prelude.{◌≡◌, ◌+◌, ◌≤◌, length};
 ghost use Rattle.std.proofs.lemmas.List.Edits.{sets};
 ghost use Rattle.buffers.specs.Buffers.{written};

@@ -1,5 +1,7 @@
 //! Two words compared letter by letter: where they part, or that one is a prefix of the other, and which comes first in
 //! the inverse order.
+#![tactic(auto)]
+
 ghost use Rattle.std.specs.Prelude.{◌≡◌, min};
 ghost use Rattle.theory.specs.Orders.CommonLength.{Matched};
 ghost use Rattle.letters.specs.Steps.{LetterSign, PrefixOrdered, PartedAt, Ordered};

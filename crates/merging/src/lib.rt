@@ -1,6 +1,8 @@
 //! The Lyndon table by merging: from right to left, the longest anti-Lyndon word at a place is made of the letter there
 //! and the longest words that follow, as long as each comes after what stands before it. A separator is a word alone;
 //! it comes before every word that begins below it, so it joins none.
+#![tactic(auto)]
+
 ghost use Rattle.std.specs.Prelude.{◌≡◌, get_or};
 ghost use Rattle.words.specs.Separated.{separated_table};
 ghost use Rattle.theory.specs.Orders.Decisions.{Decides};

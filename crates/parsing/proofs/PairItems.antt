@@ -1,7 +1,7 @@
 -- Pairs of a list that was read before, one after another: each is two of its numbers (pair_read), and what their reader's caller learns (pairs_next, pairs-none).
 use mathlib.Core.Path.{◌≡◌, refl, ap, sym, ◌∙◌}
 use mathlib.Core.List.{List, [], ◌∷◌}
-use Prim.Native.Nat.{ℕ, zero, suc, ◌%◌}
+use Prim.Native.Nat.{ℕ, ◌%◌}
 use native.Mathlib.Omega.{arith}
 use lib.ListN.{length}
 use Rattle.parsing.specs.Parsing.{Standing, Left, none, some, ItemRead, Paired, pair, PairsLeft, PairRead}

@@ -1,4 +1,6 @@
 //! Numbers and lists of a text, read from a place on. Nothing is kept beside a few numbers, and nothing overflows, whatever the text.
+#![tactic(auto)]
+
 ghost use Rattle.std.specs.Prelude.{◌≡◌};
 ghost use Rattle.text.specs.Reading.{digit_value};
 ghost use Rattle.parsing.specs.Parsing.{NumberRead, ListRead, ItemRead, PairRead};

@@ -1,5 +1,7 @@
 //! The reader: a part of a record by its number in a paired list. The list may be any that line 7 of the refusals
 //! accepts; it need not be a factorization.
+#![tactic(auto)]
+
 ghost use Rattle.std.specs.Prelude.{◌≡◌, []};
 ghost use Rattle.checks.specs.Lines.{tried, record_lines, Accepted};
 ghost use Rattle.reading.specs.Factor.{factor_lines, FactorAt};

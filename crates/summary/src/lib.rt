@@ -1,5 +1,7 @@
 //! The summary of the parts that a paired list marks in a record. The list may be any that line 7 of the refusals
 //! accepts; it need not be a factorization.
+#![tactic(auto)]
+
 ghost use Rattle.std.specs.Prelude.{◌≡◌, []};
 ghost use Rattle.words.specs.Pairs.{ends_of};
 ghost use Rattle.checks.specs.Lines.{record_lines, Accepted};

@@ -1,4 +1,6 @@
 //! Text in a lent buffer. Each function writes from entry `at` of `out` on and answers the entry after what it wrote.
+#![tactic(auto)]
+
 ghost use Rattle.std.specs.Prelude.{◌≡◌, length, [], ◌∷◌};
 ghost use Rattle.text.specs.Text.{decimal, list_by, comma_list, pair_list, line};
 ghost use Rattle.text.specs.Writing.{FitsAt, WroteAt};

@@ -1,4 +1,6 @@
 //! What the pairs of a listing come to (request 109), beside the numbers and the bands that it gives.
+#![tactic(auto)]
+
 ghost use Rattle.totals.specs.Totals.{Summed, SummedUp, ListDecided};
 
 use summary::Summary;
