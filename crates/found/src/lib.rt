@@ -1,5 +1,7 @@
 //! The run that a place serves: the period is 1 after the same letter, else the length of the longest Lyndon word
 //! there. How far it repeats to the left and to the right decides.
+#![tactic(auto)]
+
 ghost use Rattle.std.specs.Prelude.{◌≡◌, ◌<◌, length};
 ghost use Rattle.theory.specs.Orders.Decisions.{Decides};
 ghost use Rattle.theory.specs.Repetitions.Found.{left_of, Counts, found_period, found_at};

@@ -1,4 +1,6 @@
 //! The canonical inverse Lyndon factorization (paper 01: the piece cut), stretch by stretch (request 103).
+#![tactic(auto)]
+
 ghost use Rattle.std.specs.Prelude.{[]};
 ghost use Rattle.checks.specs.Lines.{record_lines, Accepted};
 ghost use Rattle.icfl.specs.Icfl.{IcflDone};

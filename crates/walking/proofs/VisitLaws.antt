@@ -6,8 +6,6 @@ use mathlib.Core.List.Memᴰ
 use mathlib.Core.List.{List, [], ◌∷◌, map, map-append}
 use Prim.Native.Nat.{ℕ, ◌+◌, ◌-◌, ◌*◌, ◌≤◌, ◌<◌}
 use native.Mathlib.Omega.{arith}
-use types.Run.{OneOf}
-use denote.Enum.Declared.{tag_of}
 use lib.ListN.{length, drop, length-append, length-map, take-append-drop}
 use lib.Seq.{length-take-le}
 use Rattle.buffers.specs.Buffers.{written}
@@ -28,7 +26,6 @@ use Rattle.common.specs.Orders.{most_byte}
 use Rattle.found.specs.declared.Found.{Found}
 use Rattle.found.specs.declared.Found.TheVariants.{None, Run}
 use Rattle.found.specs.Found.{found_runs, PlaceKnown}
-use Rattle.found.specs.contracts.Found.{the_type}
 use Rattle.walking.specs.Walking.{Listed, all_found, VisitRoom, Visited}
 
 -- ---- lists
@@ -61,9 +58,9 @@ module _ {rs : List Triple} {out₀ out : List ℕ} {store : Bool} {count : ℕ}
 -- ---- a place
 
 -- what no run stands for
-pub none_told : (f : Found) → OneOf (0 ∷ []) (tag_of the_type f) → found_runs f ≡ []
+pub none_told : (f : Found) → ((first end period : ℕ) → f ≡ Run first end period → ⊥) → found_runs f ≡ []
 none_told None h = refl
-none_told (Run first end period) h = let z : ◌≡◌ {A = ℕ} 1 0 = h in absurd (omega arith)
+none_told (Run first end period) h = absurd (h first end period refl)
 
 -- a run's entries, from a place of the record on
 pub record EntriesFit (from first end period : ℕ) : Type 0 where

@@ -1,5 +1,7 @@
 //! All places of all stretches: the runs are counted, and put into the list in the result buffer where they are to be
 //! stored.
+#![tactic(auto)]
+
 ghost use Rattle.std.specs.Prelude.{◌<◌, length};
 ghost use Rattle.theory.specs.Repetitions.Found.{found_at};
 ghost use Rattle.common.specs.Orders.{most_byte};

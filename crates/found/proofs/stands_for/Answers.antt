@@ -1,0 +1,6 @@
+-- The test of the definition.
+use Rattle.theory.proofs.Repetitions.Found.{counts-test}
+use Rattle.found.proofs.stands_for.Goals as goal
+
+pub returns : goal.returns
+returns c = let a = c.args in counts-test a.word.now a.i a.end
