@@ -1,7 +1,7 @@
 //! The calls by name.
 
 /// The calls that are compared.
-#[derive(Drop)]
+#[derive(Clone, Copy)]
 pub enum Call {
     Test,
     Pieces,

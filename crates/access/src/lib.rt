@@ -1,5 +1,7 @@
 //! Letters, entries and parts at a place, each defined for all arguments, and the calls by name: what the second
 //! implementation, the records that it is tried on and the trials share.
+#![tactic(auto)]
+
 mod entries; // letters and entries, sums and differences
 mod parts; // the parts that a paired list marks, and their summary
 mod pairing; // paired lists made of lists of ends

@@ -1,4 +1,6 @@
 //! A batch: records one after another, each cut as by the piece cut alone (paper 02: a card).
+#![tactic(auto)]
+
 ghost use Rattle.std.specs.Prelude.{◌≡◌, ◌*◌, ◌≤◌};
 ghost use Rattle.words.specs.Words.{most_letters};
 ghost use Rattle.checks.specs.Lines.{record_lines};
@@ -9,7 +11,7 @@ pub use checks::MOST_RECORDS;
 use checks::{Checked, Counted};
 
 /// What the piece cut answers for one record.
-#[derive(Drop)]
+#[derive(Clone, Copy)]
 pub struct Place {
     pub answer: Counted,
 }

@@ -4,7 +4,7 @@ use samples::{LISTS, Run, random_record, shaped_record, spell, spell_with_marks}
 use trials::{RANGES, WORDS, try_cases};
 
 /// Records of a kind, with the calls that are made on them.
-#[derive(Drop)]
+#[derive(Clone, Copy)]
 pub enum Group {
     /// The words over so many letters, the shorter ones first; all calls.
     Words { letters: usize },

@@ -1,13 +1,16 @@
 //! Runs the calls on many records and compares what they answer, and every entry of the buffers that they are lent,
 //! with the second implementation of `naive`: prints for each call on how many inputs the two agreed and disagreed,
 //! then the same for inputs at the boundaries of the refusals.
+#![tactic(auto)]
+
 mod groups; // the groups of records, and the calls that are made on each
 mod printing; // the lines that are printed
 
 use groups::{Group, try_group};
 use samples::{Run, STATE};
+use std::io;
 
-fn main() {
+fn main(rt: HostRuntime) -> io::Result<()> {
     let mut run: Run = [0; STATE + 1];
     run[STATE] = 20011;
     try_group(Group::Words { letters: 2 }, 1022, &mut run);
@@ -20,5 +23,5 @@ fn main() {
     try_group(Group::Ranges, 14, &mut run);
     try_group(Group::Lists, 7, &mut run);
     try_group(Group::Differences, 50, &mut run);
-    printing::print_all(&run);
+    printing::print_all(&rt, &run)
 }

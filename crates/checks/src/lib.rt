@@ -54,7 +54,7 @@ impl Checked {
 }
 
 /// What a call that fills a result buffer answers: the number of factors or entries, or the number of the refusal.
-#[derive(Drop)]
+#[derive(Clone, Copy)]
 pub enum Counted {
     Count(usize),
     Refused(u8),

@@ -1,5 +1,7 @@
 //! What became of each break: read off the notes of the cuts and the ends of the factors, from left to right, and
 //! written five entries a break.
+#![tactic(auto)]
+
 ghost use Rattle.std.specs.Prelude.{◌≡◌, ◌+◌, ◌≤◌, length};
 ghost use Rattle.std.proofs.lemmas.List.Edits.{sets};
 ghost use Rattle.buffers.specs.Buffers.{written};

@@ -1,4 +1,6 @@
 //! The piece cut with its breaks beside it: why each factor ends where it does.
+#![tactic(auto)]
+
 ghost use Rattle.std.specs.Prelude.{[]};
 ghost use Rattle.checks.specs.Lines.{record_lines, Accepted};
 ghost use Rattle.icfl_breaks.specs.IcflBreaks.{BreaksDone};

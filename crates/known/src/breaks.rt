@@ -2,49 +2,62 @@
 use super::printing::{print_groups, print_pairs, print_refusal};
 use checks::MOST;
 use icfl_breaks::CountedBreaks;
-use libc::STDOUT_FILENO;
+use std::io;
 
 /// The pieces and the breaks, with so many entries lent for them as `pairs` and `list` have.
-pub fn print_reasons(name: &[u8], word: &[u8], pairs: &mut [u16], list: &mut [u16]) {
+pub fn print_reasons(
+    out: &impl Print,
+    name: &[u8],
+    word: &[u8],
+    pairs: &mut [u16],
+    list: &mut [u16],
+) -> io::Result<()> {
     let mut work = [0u16; 3 * MOST];
-    io::write_all(STDOUT_FILENO, name);
+    out.write_all(name)?;
     match icfl_breaks::icfl_with_breaks(word, &mut work, pairs, list) {
         CountedBreaks::Counts { factors, breaks } => {
-            io::write_all(STDOUT_FILENO, b"pieces=");
-            print_pairs(pairs, factors);
-            io::write_all(STDOUT_FILENO, b" breaks=");
-            print_groups(list, 5, breaks);
+            out.write_all(b"pieces=")?;
+            print_pairs(out, pairs, factors)?;
+            out.write_all(b" breaks=")?;
+            print_groups(out, list, 5, breaks)?;
         }
-        CountedBreaks::Refused(number) => print_refusal(number),
+        CountedBreaks::Refused(number) => print_refusal(out, number)?,
     }
-    io::write_all(STDOUT_FILENO, b"\n");
+    out.write_all(b"\n")
 }
 
 /// The breaks of a shortest record that joins with nothing to spare, of one with a join inside another, and of a
 /// falling one.
-pub fn print_joins() {
+pub fn print_joins(out: &impl Print) -> io::Result<()> {
     let mut four = [0u16; 4];
     let mut list = [0u16; 15];
     let mut none = [0u16; 0];
     let twice = b"cbabacaacbabaacbabacaacbabacbac";
-    print_reasons(b"baababb: ", b"baababb", &mut four, &mut list);
-    print_reasons(b"Joined twice: ", twice, &mut four, &mut list);
+    print_reasons(out, b"baababb: ", b"baababb", &mut four, &mut list)?;
+    print_reasons(out, b"Joined twice: ", twice, &mut four, &mut list)?;
     print_reasons(
+        out,
         b"F with no entry for breaks: ",
         b"baba",
         &mut four,
         &mut none,
-    );
+    )
 }
 
 /// The breaks of I, with as many entries lent as it needs, and with one fewer for the pieces or for the breaks.
-pub fn print_room_for_breaks() {
+pub fn print_room_for_breaks(out: &impl Print) -> io::Result<()> {
     let word = b"cbabacaacbabacbac";
     let mut four = [0u16; 4];
     let mut three = [0u16; 3];
     let mut ten = [0u16; 10];
     let mut nine = [0u16; 9];
-    print_reasons(b"I with 4 and 10 entries: ", word, &mut four, &mut ten);
-    print_reasons(b"I with 3 and 10 entries: ", word, &mut three, &mut ten);
-    print_reasons(b"I with 4 and 9 entries: ", word, &mut four, &mut nine);
+    print_reasons(out, b"I with 4 and 10 entries: ", word, &mut four, &mut ten)?;
+    print_reasons(
+        out,
+        b"I with 3 and 10 entries: ",
+        word,
+        &mut three,
+        &mut ten,
+    )?;
+    print_reasons(out, b"I with 4 and 9 entries: ", word, &mut four, &mut nine)
 }

@@ -1,5 +1,7 @@
 //! Prints what paper 01 and the requests say of single records, as the calls answer it. The numbers that must come are
 //! the papers', and stand in `stdout`; the file `args` has the records A to K.
+#![tactic(auto)]
+
 mod batches; // cards of records
 mod breaks; // the piece cut with its breaks
 mod comparisons; // two starts: the sign, and how far they agree
@@ -15,48 +17,49 @@ use breaks::{print_joins, print_room_for_breaks};
 use checks::MOST;
 use comparisons::print_comparisons;
 use extension::Extension;
-use libc::STDOUT_FILENO;
 use lists::print_lists;
 use marks::print_marks;
 use printing::{print_answer, print_list, print_pieces};
 use refusals::print_refusals;
 use repetitions::print_repetitions;
+use std::env::{Env, FillError};
+use std::io;
 
 // The pieces, with so many entries lent for them as `pairs` has.
-fn print_cut(name: &[u8], word: &[u8], pairs: &mut [u16]) {
+fn print_cut(out: &impl Print, name: &[u8], word: &[u8], pairs: &mut [u16]) -> io::Result<()> {
     let mut work = [0u16; 3 * MOST];
     let answer = icfl::icfl(word, &mut work, pairs);
-    print_pieces(name, answer, pairs);
+    print_pieces(out, name, answer, pairs)
 }
 
 // A record that is an argument of the program, with its pieces and its strict ends.
-fn print_cuts(argument: usize) {
-    let mut text = io::buffer();
-    let length = os::arg(argument, &mut text);
-    let word = &text[..length];
+fn print_cuts(out: &impl Print, word: &[u8]) -> io::Result<()> {
     let mut list = [0u16; 2 * MOST];
-    io::write_all(STDOUT_FILENO, word);
-    print_cut(b" pieces=", word, &mut list);
+    out.write_all(word)?;
+    print_cut(out, b" pieces=", word, &mut list)?;
     let answer = cfl::cfl_in(word, &mut list);
-    print_answer(b" strict=", answer, &list);
-    io::write_all(STDOUT_FILENO, b"\n");
+    print_answer(out, b" strict=", answer, &list)?;
+    out.write_all(b"\n")
 }
 
-// The records A to K.
-fn print_table() {
-    let count = os::arg_count();
-    let mut argument: usize = 1;
-    while argument < count {
-        print_cuts(argument);
-        argument += 1;
+// The records A to K; an argument that is too long is taken for an empty one.
+fn print_table(rt: &(impl Print + Env)) -> io::Result<()> {
+    let mut text = [0u8; 4096];
+    for argument in 1..usize::MAX {
+        match rt.arg(argument, &mut text) {
+            Ok(length) => print_cuts(rt, &text[..length])?,
+            Err(FillError::TooLong) => print_cuts(rt, b"")?,
+            Err(FillError::NotPresent) => break,
+        }
     }
+    Ok(())
 }
 
 // L, |p| and |r|; nothing where the test does not give them.
-fn print_test(name: &[u8], word: &[u8]) {
+fn print_test(out: &impl Print, name: &[u8], word: &[u8]) -> io::Result<()> {
     let mut work = [0u16; MOST];
     let mut list = [0u16; 3];
-    io::write_all(STDOUT_FILENO, name);
+    out.write_all(name)?;
     match extension::find_extension(word, &mut work) {
         Extension::Failing {
             failing,
@@ -64,45 +67,46 @@ fn print_test(name: &[u8], word: &[u8]) {
             border,
         } => {
             store_three(&mut list, failing, prefix, border);
-            print_list(&list);
+            print_list(out, &list)
         }
-        _ => {}
+        _ => Ok(()),
     }
 }
 
 // The start table of H.
-fn print_starts() {
+fn print_starts(out: &impl Print) -> io::Result<()> {
     let mut lengths = [0u16; 9];
     let answer = table::lyndon_table(b"cbabacbac", &mut lengths);
-    print_answer(b"H starts=", answer, &lengths);
+    print_answer(out, b"H starts=", answer, &lengths)
 }
 
 // The pieces of H, with as many entries lent as it needs, two for each piece, and with one fewer.
-fn print_room() {
+fn print_room(out: &impl Print) -> io::Result<()> {
     let mut four = [0u16; 4];
     let mut three = [0u16; 3];
-    print_cut(b"\nH with 4 entries pieces=", b"cbabacbac", &mut four);
-    print_cut(b"\nH with 3 entries pieces=", b"cbabacbac", &mut three);
-    io::write_all(STDOUT_FILENO, b"\n");
+    print_cut(out, b"\nH with 4 entries pieces=", b"cbabacbac", &mut four)?;
+    print_cut(out, b"\nH with 3 entries pieces=", b"cbabacbac", &mut three)?;
+    out.write_all(b"\n")
 }
 
 // The table, what is said of H and I and of ranges, breaks, marks, cards, repetitions and lists, and the refusals of a
 // record with a mark, at the greatest length and one above it.
-fn main() {
-    print_table();
-    print_starts();
-    print_test(b"\nH test=", b"cbabacbac");
-    print_test(b"\nI test=", b"cbabacaacbabacbac");
-    print_room();
-    print_comparisons();
-    print_joins();
-    print_room_for_breaks();
-    print_marks();
-    print_batches();
-    print_repetitions();
-    print_lists();
-    print_refusals(b"ba, a mark: ", b"ba\xff", &[3, 1]);
+fn main(rt: HostRuntime) -> io::Result<()> {
+    let out = &rt;
+    print_table(out)?;
+    print_starts(out)?;
+    print_test(out, b"\nH test=", b"cbabacbac")?;
+    print_test(out, b"\nI test=", b"cbabacaacbabacbac")?;
+    print_room(out)?;
+    print_comparisons(out)?;
+    print_joins(out)?;
+    print_room_for_breaks(out)?;
+    print_marks(out)?;
+    print_batches(out)?;
+    print_repetitions(out)?;
+    print_lists(out)?;
+    print_refusals(out, b"ba, a mark: ", b"ba\xff", &[3, 1])?;
     let word = [97u8; MOST + 1];
-    print_refusals(b"4096 letters: ", &word[..MOST], &[4096, 1]);
-    print_refusals(b"4097 letters: ", &word, &[4097, 1]);
+    print_refusals(out, b"4096 letters: ", &word[..MOST], &[4096, 1])?;
+    print_refusals(out, b"4097 letters: ", &word, &[4097, 1])
 }

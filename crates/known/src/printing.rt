@@ -1,78 +1,91 @@
 //! Lists of numbers and of pairs, refusals and answers, as the lines have them.
 use access::{entry, front, part_count, part_end, plus};
 use checks::Counted;
-use libc::STDOUT_FILENO;
+use std::io;
 
 /// Numbers with commas between them.
-pub fn print_list(list: &[u16]) {
+pub fn print_list(out: &impl Print, list: &[u16]) -> io::Result<()> {
     let mut i: usize = 0;
     while i < list.len() {
         if 0 < i {
-            io::write_all(STDOUT_FILENO, b",");
+            out.write_all(b",")?;
         }
-        io::print_decimal(STDOUT_FILENO, entry(list, i) as u64);
+        out.print(entry(list, i))?;
         i += 1;
     }
+    Ok(())
 }
 
 /// So many pairs with commas between them, each as the listing has it: the end, a colon, the count.
-pub fn print_pairs(pairs: &[u16], count: usize) {
+pub fn print_pairs(out: &impl Print, pairs: &[u16], count: usize) -> io::Result<()> {
     let mut k: usize = 0;
     while k < count {
         if 0 < k {
-            io::write_all(STDOUT_FILENO, b",");
+            out.write_all(b",")?;
         }
-        io::print_decimal(STDOUT_FILENO, part_end(pairs, k) as u64);
-        io::write_all(STDOUT_FILENO, b":");
-        io::print_decimal(STDOUT_FILENO, part_count(pairs, k) as u64);
+        out.print(part_end(pairs, k))?;
+        out.write_all(b":")?;
+        out.print(part_count(pairs, k))?;
         k += 1;
     }
+    Ok(())
 }
 
 // So many entries from one on, where there are so many.
-fn print_group(list: &[u16], from: usize, size: usize) {
+fn print_group(out: &impl Print, list: &[u16], from: usize, size: usize) -> io::Result<()> {
     if list.len() < size {
-        return;
+        return Ok(());
     }
     if list.len() - size < from {
-        return;
+        return Ok(());
     }
-    io::write_all(STDOUT_FILENO, b"(");
-    print_list(&list[from..from + size]);
-    io::write_all(STDOUT_FILENO, b")");
+    out.write_all(b"(")?;
+    print_list(out, &list[from..from + size])?;
+    out.write_all(b")")
 }
 
 /// So many groups of entries, each of that size: breaks, or repetitions.
-pub fn print_groups(list: &[u16], size: usize, count: usize) {
+pub fn print_groups(out: &impl Print, list: &[u16], size: usize, count: usize) -> io::Result<()> {
     let mut from: usize = 0;
     let mut left = count;
     while 0 < left {
-        print_group(list, from, size);
+        print_group(out, list, from, size)?;
         from = plus(from, size);
         left -= 1;
     }
+    Ok(())
 }
 
 /// The refusal's number.
-pub fn print_refusal(number: u8) {
-    io::write_all(STDOUT_FILENO, b"refusal ");
-    print_list(&[number as u16]);
+pub fn print_refusal(out: &impl Print, number: u8) -> io::Result<()> {
+    out.write_all(b"refusal ")?;
+    print_list(out, &[number as u16])
 }
 
 /// An answer: the entries of the result, or the refusal's number.
-pub fn print_answer(name: &[u8], answer: Counted, list: &[u16]) {
-    io::write_all(STDOUT_FILENO, name);
+pub fn print_answer(
+    out: &impl Print,
+    name: &[u8],
+    answer: Counted,
+    list: &[u16],
+) -> io::Result<()> {
+    out.write_all(name)?;
     match answer {
-        Counted::Count(count) => print_list(front(list, count)),
-        Counted::Refused(number) => print_refusal(number),
+        Counted::Count(count) => print_list(out, front(list, count)),
+        Counted::Refused(number) => print_refusal(out, number),
     }
 }
 
 /// The piece cut's answer: its pairs, or the refusal's number.
-pub fn print_pieces(name: &[u8], answer: Counted, pairs: &[u16]) {
-    io::write_all(STDOUT_FILENO, name);
+pub fn print_pieces(
+    out: &impl Print,
+    name: &[u8],
+    answer: Counted,
+    pairs: &[u16],
+) -> io::Result<()> {
+    out.write_all(name)?;
     match answer {
-        Counted::Count(count) => print_pairs(pairs, count),
-        Counted::Refused(number) => print_refusal(number),
+        Counted::Count(count) => print_pairs(out, pairs, count),
+        Counted::Refused(number) => print_refusal(out, number),
     }
 }

@@ -4,7 +4,7 @@ use checks::{Counted, MOST};
 use compare::Comparison;
 use extension::Extension;
 use icfl_breaks::CountedBreaks;
-use libc::STDOUT_FILENO;
+use std::io;
 
 // The refusal's number, 0 for a result.
 fn refusal(answer: Counted) -> u16 {
@@ -25,7 +25,7 @@ fn refusal_beside(word: &[u8], work: &mut [u16], pairs: &mut [u16]) -> u16 {
 
 // The same of the calls that are lent buffers: the test, the piece cut alone and with its breaks, the strict cut, the
 // start table, the repetitions.
-fn print_lent_refusals(word: &[u8]) {
+fn print_lent_refusals(out: &impl Print, word: &[u8]) -> io::Result<()> {
     let mut work = [0u16; 3 * MOST];
     let mut list = [0u16; MOST];
     let tested = match extension::find_extension(word, &mut work) {
@@ -37,12 +37,12 @@ fn print_lent_refusals(word: &[u8]) {
     let strict = refusal(cfl::cfl_in(word, &mut list));
     let starts = refusal(table::lyndon_table(word, &mut list));
     let repeated = refusal(runs::runs(word, &mut list));
-    print_list(&[tested, pieces, broken, strict, starts, repeated]);
+    print_list(out, &[tested, pieces, broken, strict, starts, repeated])
 }
 
 /// The refusal's number of every call, 0 for a result: of those that are lent buffers, then of comparison, reader and
 /// summary.
-pub fn print_refusals(name: &[u8], word: &[u8], pairs: &[u16]) {
+pub fn print_refusals(out: &impl Print, name: &[u8], word: &[u8], pairs: &[u16]) -> io::Result<()> {
     let compared = match compare::compare_suffixes(word, 0, word.len(), 0, 0) {
         Comparison::Refused(number) => number,
         Comparison::Order { .. } => 0,
@@ -50,9 +50,9 @@ pub fn print_refusals(name: &[u8], word: &[u8], pairs: &[u16]) {
     let mut told: u8 = 0;
     reading::factor_at(word, pairs, 0, &mut told);
     let summary = summary::summarize(word, pairs);
-    io::write_all(STDOUT_FILENO, name);
-    print_lent_refusals(word);
-    io::write_all(STDOUT_FILENO, b",");
-    print_list(&[compared as u16, told as u16, summary.refusal as u16]);
-    io::write_all(STDOUT_FILENO, b"\n");
+    out.write_all(name)?;
+    print_lent_refusals(out, word)?;
+    out.write_all(b",")?;
+    print_list(out, &[compared as u16, told as u16, summary.refusal as u16])?;
+    out.write_all(b"\n")
 }

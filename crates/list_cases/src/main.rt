@@ -1,24 +1,20 @@
 //! The list program on further inputs: each file that an argument names, one listing after the other. A folder can be
 //! opened and not read; what the program says then goes to standard output here, among the listings.
-use libc::STDOUT_FILENO;
+#![tactic(auto)]
 
-fn list_file(argument: usize) {
-    let mut path = io::buffer();
-    let length = os::arg(argument, &mut path);
-    let file = os::open_read(&path[..length]);
-    if file < 0 {
-        os::fail(&path[..length]);
-        return;
+use std::fs::File;
+use std::{env, io};
+
+fn list_file(rt: &HostRuntime, path: &str) -> io::Result<()> {
+    match File::open(rt, path) {
+        Ok(mut file) => lister::list(&mut file, &mut rt.stdout(), &mut rt.stdout()),
+        Err(error) => eprintln!(rt; "{path}: {error}"),
     }
-    lister::list(file, STDOUT_FILENO, STDOUT_FILENO);
-    libc::close(file);
 }
 
-fn main() {
-    let count = os::arg_count();
-    let mut argument: usize = 1;
-    while argument < count {
-        list_file(argument);
-        argument += 1;
+fn main(rt: HostRuntime) -> io::Result<()> {
+    for path in env::args(&rt)?.skip(1) {
+        list_file(&rt, path.as_str())?;
     }
+    Ok(())
 }

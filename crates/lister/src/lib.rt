@@ -1,15 +1,20 @@
-//! The list program's work between descriptors.
-ghost use Rattle.std.specs.Prelude.{length};
-ghost use Rattle.lister.specs.Reading.{Within};
+//! The list program's work between its input and its outputs.
+#![tactic(auto)]
+
+ghost use Rattle.std.specs.Prelude.{length, OnOk, IsTrue};
+ghost use Rattle.lister.specs.Reading.{Within, ReadOnce, ReadFull, ReadAll, ReadRest};
+ghost use Rattle.lister.specs.Listing.{Lists};
 
 use checks::MOST;
+use std::io;
+use std::io::{ErrorKind, Read, Write};
 
 // A proved loop has to end, and nothing says that an input does, or that signals do; so such a loop counts down from a
 // number that no run uses up.
 const TURNS: u64 = u64::MAX;
 
 /// What reading came to: so many bytes, or a read that failed.
-#[derive(Drop)]
+#[derive(Clone, Copy)]
 pub enum Got {
     Bytes(usize),
     Failed,
@@ -17,18 +22,19 @@ pub enum Got {
 
 // Reads once into `buffer`: 0 bytes at the input's end. A read that a signal interrupts before a byte has come is made
 // again.
-fn read_some(input: i32, buffer: &mut [u8]) -> Got
-    ensures { Within result (length buffer.old) }
+fn read_some<R: Read>(input: &mut R, buffer: &mut [u8]) -> Got
+    ensures within { Within result (length buffer.old) }
+    ensures read { ReadOnce (R.remaining input.old) (R.remaining input.new) result buffer.new }
 {
     let mut turns = TURNS;
     while turns > 0 {
-        let moved = libc::read(input, buffer);
-        if moved >= 0 {
-            let count = io::count(moved, buffer);
-            return Got::Bytes(count);
-        }
-        if os::errno() != libc::EINTR {
-            return Got::Failed;
+        match input.read(buffer) {
+            Ok(count) => return Got::Bytes(count),
+            Err(error) => {
+                if error.kind() != ErrorKind::Interrupted {
+                    return Got::Failed;
+                }
+            }
         }
         turns -= 1;
     }
@@ -36,8 +42,9 @@ fn read_some(input: i32, buffer: &mut [u8]) -> Got
 }
 
 // Reads until `word` is full or the input ends.
-fn read_word(input: i32, word: &mut [u8]) -> Got
-    ensures { Within result (length word.old) }
+fn read_word<R: Read>(input: &mut R, word: &mut [u8]) -> Got
+    ensures within { Within result (length word.old) }
+    ensures read { ReadFull (R.remaining input.old) (R.remaining input.new) result word.new }
 {
     let mut done: usize = 0;
     while done < word.len() {
@@ -54,13 +61,17 @@ fn read_word(input: i32, word: &mut [u8]) -> Got
 }
 
 // Reads once, and keeps nothing.
-fn skip_some(input: i32) -> Got {
-    let mut buffer = io::large_buffer();
+fn skip_some<R: Read>(input: &mut R) -> Got
+    ensures { ReadRest (R.remaining input.old) (R.remaining input.new) result }
+{
+    let mut buffer = [0u8; 65536];
     read_some(input, &mut buffer)
 }
 
 // Reads what is left of the input: whether its end was reached.
-fn skip_rest(input: i32) -> bool {
+fn skip_rest<R: Read>(input: &mut R) -> bool
+    ensures { IsTrue result → ReadRest (R.remaining input.old) (R.remaining input.new) (Got.Bytes 0) }
+{
     let mut turns = TURNS;
     while turns > 0 {
         let got = skip_some(input);
@@ -77,8 +88,9 @@ fn skip_rest(input: i32) -> bool {
 
 // Reads `input` to its end. One byte more than a record may have tells that the record is too long; the bytes after it
 // are read too, and change nothing.
-fn read_record(input: i32, word: &mut [u8]) -> Got
-    ensures { Within result (length word.old) }
+fn read_record<R: Read>(input: &mut R, word: &mut [u8]) -> Got
+    ensures within { Within result (length word.old) }
+    ensures read { ReadAll (R.remaining input.old) (R.remaining input.new) result word.new }
 {
     let got = read_word(input, word);
     let Got::Bytes(length) = got else {
@@ -91,13 +103,19 @@ fn read_record(input: i32, word: &mut [u8]) -> Got
 }
 
 /// Reads `input` to its end and writes the listing of its bytes to `output`. After a read that failed it writes one
-/// line to `errors` and nothing else.
-pub fn list(input: i32, output: i32, errors: i32) {
+/// line to `errors` and nothing else. The error is that of a write.
+pub fn list<R: Read, W: Write, E: Write>(
+    input: &mut R,
+    output: &mut W,
+    errors: &mut E,
+) -> io::Result<()>
+    ensures { OnOk result (Lists (R.remaining input.old) (R.remaining input.new)
+        (W.contents output.old) (W.contents output.new) (E.contents errors.old) (E.contents errors.new)) }
+{
     let mut word = [0u8; MOST + 1];
     let got = read_record(input, &mut word);
     let Got::Bytes(length) = got else {
-        io::write_all(errors, b"list: the record could not be read\n");
-        return;
+        return errors.write_all(b"list: the record could not be read\n");
     };
     let mut work = [0u16; listing::WORK];
     let mut pairs = [0u16; listing::PAIRS];
@@ -110,5 +128,5 @@ pub fn list(input: i32, output: i32, errors: i32) {
         &mut strict,
         &mut out,
     );
-    io::write_all(output, &out[..size]);
+    output.write_all(&out[..size])
 }

@@ -1,4 +1,6 @@
 //! Paper 01's listing of a record, written into a lent buffer.
+#![tactic(auto)]
+
 mod lines;
 
 ghost use Rattle.std.specs.Prelude.{◌≡◌};

@@ -1,6 +1,6 @@
 -- The loop over the pairs in a text, over plain lists: all of them fit just where the pair at hand and those that are left fit, from the part at hand on.
-use mathlib.Core.Path.{◌≡◌, refl, ap, sym, ◌∙◌}
-use mathlib.Core.Bool.{Bool, true, false}
+use mathlib.Core.Path.{◌≡◌, ap, sym, ◌∙◌}
+use mathlib.Core.Bool.{Bool, false}
 use mathlib.Core.Logic.{◌↔◌}
 use mathlib.Core.List.{List, [], ◌∷◌}
 use Prim.Native.Nat.{ℕ, ◌≤◌, ◌<◌}
@@ -11,10 +11,9 @@ use lib.Seq.{length-slice}
 use Rattle.buffers.proofs.PartLaws.{part, part-is}
 use Rattle.words.specs.Words.{most_letters}
 use Rattle.words.specs.Separated.{UpToSeparator, separated_cfl_in_ends}
-use Rattle.words.specs.Pairs.{ends_of, separated_pairs}
-use Rattle.theory.specs.Orders.Decisions.{Decides, holds, fails, decides-true, decides-false}
+use Rattle.words.specs.Pairs.{ends_of}
+use Rattle.theory.specs.Orders.Decisions.{Decides, holds, fails}
 use Rattle.theory.specs.Judging.Judge.{judged_turn}
-use Rattle.theory.proofs.Judging.Judge.{first_or}
 use Rattle.theory.proofs.Judging.PairsFit.{PairsFit, done, more, fit-end, fit-rises, fit-judged, fit_count, fit-rest, fit-most, fit-own, own-fit}
 use Rattle.judging.specs.Judging.{Turn}
 use Rattle.parsing.specs.Parsing.{PairsLeft, PairRead}

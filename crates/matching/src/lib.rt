@@ -1,5 +1,7 @@
 //! The lists of a listing beside their record (request 109): whether the pairs and the strict ends that stand in a text
 //! are the record's own. Nothing is cut: pairs are judged part by part, strict ends by a walk.
+#![tactic(auto)]
+
 ghost use Rattle.std.specs.Prelude.{◌≤◌, length};
 ghost use Rattle.words.specs.Words.{most_letters};
 ghost use Rattle.theory.specs.Orders.Decisions.{Decides};

@@ -8,7 +8,7 @@ use access::{Call, minus, plus, store_three};
 
 /// Entries of the buffers of a call, those that it needs or those that it is lent: for its work, for its list, and for
 /// the breaks beside that.
-#[derive(Drop)]
+#[derive(Clone, Copy)]
 pub struct Room {
     pub work: usize,
     pub list: usize,

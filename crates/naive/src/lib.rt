@@ -1,5 +1,7 @@
 //! A second implementation of the calls, by the definitions and not by the proved algorithms, for the program `cases`
 //! to compare with. Every function is safe and ends for all arguments; what it answers is not proved.
+#![tactic(auto)]
+
 mod order; // both orders, letter by letter, and the comparison in two ways
 mod extension; // the test: every suffix, every length
 mod strict; // the strict cut and the start table by the longest anti-Lyndon prefix

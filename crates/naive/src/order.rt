@@ -47,7 +47,7 @@ pub fn natural_less(word: &[u8], end: usize, i: usize, j: usize) -> bool {
 }
 
 /// What the comparison answers: −1, 0 or +1, and how many leading letters are equal.
-#[derive(Drop)]
+#[derive(Clone, Copy)]
 pub struct Compared {
     pub sign: i8,
     pub common: usize,

@@ -1,5 +1,7 @@
 //! What the trials of the calls are made from, and what they leave: records, numbers and buffers, and the counts of a
 //! run.
+#![tactic(auto)]
+
 mod run; // the generator of pseudo-random numbers, and the counts of agreeing and disagreeing cases
 mod shapes; // records of a shape: all short ones, periodic and random ones, ramps, plateaus
 mod marks; // marks, put into these

@@ -4,7 +4,7 @@ use super::shapes::spell;
 use access::{SEPARATOR, letter, minus, plus, set_letter};
 
 /// Where the marks of a record stand.
-#[derive(Drop)]
+#[derive(Clone, Copy)]
 pub enum Marks {
     Nowhere,
     Everywhere,

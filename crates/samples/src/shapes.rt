@@ -3,7 +3,7 @@ use super::run::{Run, draw};
 use access::{letter, minus, plus, set_letter};
 
 /// What the letters of a record are.
-#[derive(Drop)]
+#[derive(Clone, Copy)]
 pub enum Shape {
     /// At random over so many letters for one period, and then repeated.
     Periodic { letters: usize, period: usize },

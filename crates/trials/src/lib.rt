@@ -1,4 +1,6 @@
 //! One case of each call, compared with the second implementation of `naive`.
+#![tactic(auto)]
+
 mod lending; // the calls that are lent buffers
 mod comparing; // the comparison, and that of two words alone with how far they agree
 mod parting; // the reader and the summary

@@ -1,0 +1,8 @@
+-- What has come lies at the front of the buffer, and each turn that goes on adds to it.
+use Rattle.std.proofs.Common.{rules, arith}
+use Rattle.lister.proofs.ReadingLaws.{consumes-behind}
+use Rattle.lister.proofs.read_word.Goals as goal
+
+pub loop-done-preserved : goal.loop-done-preserved
+loop-done-preserved g c =
+    (omega (arith, c.in-Bytes.ensures.within), search rules, consumes-behind _ _ _ _ _ _ _ _ c.loop-done.invariant.0 (omega (arith, c.in-Bytes.ensures.within)) c.loop-done.invariant.2 c.in-Bytes.ensures.read.0)
