@@ -1,6 +1,8 @@
 //! The calls for C and Rust: include/metsroeb.h has their signatures. Each returns the refusal's number, 0 for a
 //! result, or a struct that holds it; results go to that struct or to numbers that the caller lends, 0 beside a
 //! refusal. Each promises the numbers of an answer that the library's own promise allows.
+#![tactic(auto)]
+
 ghost use Rattle.std.specs.Prelude.{◌≡◌};
 ghost use Rattle.extension.specs.Extension.{ExtensionFound};
 ghost use Rattle.icfl.specs.Icfl.{IcflDone};
@@ -18,8 +20,7 @@ use checks::Checked;
 use numbers::Replies;
 use summary::Summary;
 
-#[unsafe(no_mangle)]
-pub extern "C" fn metsroeb_test(
+pub fn metsroeb_test(
     word: &[u8],
     work: &mut [u16],
     failing: &mut u16,
@@ -37,13 +38,7 @@ pub extern "C" fn metsroeb_test(
     )
 }
 
-#[unsafe(no_mangle)]
-pub extern "C" fn metsroeb_icfl(
-    word: &[u8],
-    work: &mut [u16],
-    pairs: &mut [u16],
-    count: &mut u16,
-) -> u8
+pub fn metsroeb_icfl(word: &[u8], work: &mut [u16], pairs: &mut [u16], count: &mut u16) -> u8
     ensures { Gives count_numbers (result, count.new)
         (λ a. IcflDone (export_door word.now) word.now work.old pairs.old a
         work.new pairs.new) }
@@ -51,8 +46,7 @@ pub extern "C" fn metsroeb_icfl(
     numbers::tell_count(icfl::icfl(word, work, pairs), count)
 }
 
-#[unsafe(no_mangle)]
-pub extern "C" fn metsroeb_icfl_breaks(
+pub fn metsroeb_icfl_breaks(
     word: &[u8],
     work: &mut [u16],
     pairs: &mut [u16],
@@ -68,8 +62,7 @@ pub extern "C" fn metsroeb_icfl_breaks(
     numbers::tell_breaks(answer, count, break_count)
 }
 
-#[unsafe(no_mangle)]
-pub extern "C" fn metsroeb_icfl_batch(
+pub fn metsroeb_icfl_batch(
     bytes: &[u8],
     record_ends: &[u32],
     work: &mut [u16],
@@ -83,32 +76,28 @@ pub extern "C" fn metsroeb_icfl_batch(
     numbers::numbers_of_batch(answers, record_ends.len())
 }
 
-#[unsafe(no_mangle)]
-pub extern "C" fn metsroeb_cfl_in(word: &[u8], ends: &mut [u16], count: &mut u16) -> u8
+pub fn metsroeb_cfl_in(word: &[u8], ends: &mut [u16], count: &mut u16) -> u8
     ensures { Gives count_numbers (result, count.new)
         (λ a. CflInDone (export_door word.now) word.now ends.old a ends.new) }
 {
     numbers::tell_count(cfl::cfl_in(word, ends), count)
 }
 
-#[unsafe(no_mangle)]
-pub extern "C" fn metsroeb_lyndon_table(word: &[u8], lengths: &mut [u16], count: &mut u16) -> u8
+pub fn metsroeb_lyndon_table(word: &[u8], lengths: &mut [u16], count: &mut u16) -> u8
     ensures { Gives count_numbers (result, count.new)
         (λ a. Tabled (export_door word.now) word.now lengths.old a lengths.new) }
 {
     numbers::tell_count(table::lyndon_table(word, lengths), count)
 }
 
-#[unsafe(no_mangle)]
-pub extern "C" fn metsroeb_runs(word: &[u8], runs: &mut [u16], count: &mut u16) -> u8
+pub fn metsroeb_runs(word: &[u8], runs: &mut [u16], count: &mut u16) -> u8
     ensures { Gives count_numbers (result, count.new)
         (λ a. RunsDone (export_door word.now) word.now runs.old a runs.new) }
 {
     numbers::tell_count(runs::runs(word, runs), count)
 }
 
-#[unsafe(no_mangle)]
-pub extern "C" fn metsroeb_compare(
+pub fn metsroeb_compare(
     word: &[u8],
     first: usize,
     end: usize,
@@ -124,8 +113,7 @@ pub extern "C" fn metsroeb_compare(
     numbers::tell_comparison(answer, sign, common)
 }
 
-#[unsafe(no_mangle)]
-pub extern "C" fn metsroeb_factor(
+pub fn metsroeb_factor(
     word: &[u8],
     pairs: &[u16],
     number: usize,
@@ -146,8 +134,7 @@ pub extern "C" fn metsroeb_factor(
     0
 }
 
-#[unsafe(no_mangle)]
-pub extern "C" fn metsroeb_summarize(word: &[u8], pairs: &[u16]) -> Summary
+pub fn metsroeb_summarize(word: &[u8], pairs: &[u16]) -> Summary
     ensures { Summarized (export_door word.now) word.now pairs.now result }
 {
     summary::summarize(word, pairs)
