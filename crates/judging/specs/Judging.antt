@@ -1,10 +1,7 @@
 -- What the judge's functions ask and promise; the judge itself, and what its number says, stands in theory/judging. No call's promise cites this file.
-use Rattle.std.specs.Prelude.{◌≡◌, true, false, List, ℕ, suc, ◌+◌, ◌≤◌, ◌<◌, length, get_or, leb, ltb}
-use Rattle.words.specs.Words.{most_letters, common_length_of}
-use Rattle.words.specs.Factorizations.{cfl_in}
+use Rattle.std.specs.Prelude.{◌≡◌, List, ℕ, ◌+◌, ◌≤◌, ◌<◌, length}
+use Rattle.words.specs.Words.{most_letters}
 use Rattle.theory.specs.Scan.Scanned.{Scanned}
-use Rattle.theory.specs.Places.EndsRise.{Rises}
-use Rattle.theory.specs.Judging.LastFactor.{last_word}
 use Rattle.scan.specs.declared.Scan.{Scan}
 
 -- a scan with a border

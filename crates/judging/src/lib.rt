@@ -2,6 +2,8 @@
 //! part is inverse Lyndon (paper 01: it falls); it is below the next one at a letter that both have; and no border of it
 //! begins the next one, which the length of its last anti-Lyndon factor tells. How the list is held is its caller's
 //! affair.
+#![tactic(auto)]
+
 ghost use Rattle.std.specs.Prelude.{◌≡◌, length};
 ghost use Rattle.words.specs.Factorizations.{cfl_in};
 ghost use Rattle.theory.specs.Judging.LastFactor.{last_word};
