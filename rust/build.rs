@@ -6,7 +6,7 @@ fn main() {
     let archive = folder.join("libexports.a");
     println!("cargo::rerun-if-changed={}", archive.display());
     if !archive.exists() {
-        println!("cargo::error=target/staticlib/libexports.a is missing: `rt staticlib exports` builds it");
+        println!("cargo::error=target/staticlib/libexports.a is missing: `tools/archive` builds it");
         return;
     }
     println!("cargo::rustc-link-search=native={}", folder.display());

@@ -1,4 +1,4 @@
-//! The list program, as `rt check list` builds it: what it writes, also after a read that failed.
+//! The list program, as `rt ci` or `./list` builds it: what it writes, also after a read that failed.
 use std::fs::File;
 use std::io::Write;
 use std::os::fd::OwnedFd;
@@ -6,14 +6,14 @@ use std::os::unix::net::UnixStream;
 use std::process::{Child, Command, Output, Stdio};
 use std::time::Duration;
 
-const PROGRAM: &str = concat!(env!("CARGO_MANIFEST_DIR"), "/../target/bin/list");
+const PROGRAM: &str = concat!(env!("CARGO_MANIFEST_DIR"), "/../crates/list/out/list");
 const H: &[u8] = b"cbabacbac";
 const LISTING_OF_H: &str = "length=9\npieces=2\nends=5:1,9:2\nstrict=5,8,9\nlongest=5\nfrom=0\nbands=0,0,2,0,0,0,0,0,0,0,0,0,0\n";
 
 fn start(input: impl Into<OwnedFd>) -> Child {
     let mut list = Command::new(PROGRAM);
     list.stdin(input.into()).stdout(Stdio::piped()).stderr(Stdio::piped());
-    list.spawn().expect("`rt check list` builds the program")
+    list.spawn().expect("`./list` builds the program")
 }
 
 fn listed(output: Output, want: &str) {
