@@ -3,23 +3,23 @@
 #![tactic(auto)]
 
 mod batches; // cards of records
-mod breaks; // the piece cut with its breaks
 mod comparisons; // two starts: the sign, and how far they agree
 mod lists; // lists for the reader and the summary
 mod marks; // records with marks
 mod printing; // lists of numbers and of pairs, refusals and answers
+mod reasons; // the piece cut with its breaks
 mod refusals; // the refusals of every call
 mod repetitions; // the maximal repetitions
 
 use access::store_three;
 use batches::print_batches;
-use breaks::{print_joins, print_room_for_breaks};
 use checks::MOST;
 use comparisons::print_comparisons;
 use extension::Extension;
 use lists::print_lists;
 use marks::print_marks;
 use printing::{print_answer, print_list, print_pieces};
+use reasons::{print_joins, print_room_for_breaks};
 use refusals::print_refusals;
 use repetitions::print_repetitions;
 use std::env::{Env, FillError};

@@ -1,7 +1,7 @@
 //! What request 103 says of records with marks, bytes 255: both cuts and the start table, the breaks, and the test,
 //! which refuses them.
-use super::breaks::print_reasons;
 use super::printing::{print_answer, print_list, print_pieces, print_refusal};
+use super::reasons::print_reasons;
 use extension::Extension;
 use std::io;
 
