@@ -7,6 +7,8 @@ use mir.Val.{Fits}
 use Prim.Native.Nat.{ℕ, ◌+◌, ◌≤◌}
 use lib.ListN.{length, get_or}
 use Rattle.theory.specs.Orders.Decisions.{decides-true, decides-false}
+use Rattle.buffers.proofs.PartLaws.{rest}
+use Rattle.words.specs.Words.{common_length_of}
 use Rattle.theory.specs.Repetitions.Found.{left_of, found_period}
 use Rattle.found.specs.Found.{PlaceKnown}
 use Rattle.common.specs.Orders.{most_byte}
@@ -18,11 +20,16 @@ inside-here : (w longest : List ℕ) (i : ℕ) → ((k : ℕ) → Fits w8 (get_o
     → i + p ≤ length w
 inside-here w longest i f k e = rw e (period-inside w (λ t. omega (arith, (f t).fits)) i k.known.inside)
 
+-- and so does the end
+end-here : (w longest : List ℕ) (i : ℕ) → ((k : ℕ) → Fits w8 (get_or w k 0)) → PlaceKnown w longest i → {p l r : ℕ} → p ≡ found_period most_byte w i
+    → l ≡ left_of w i p → r ≡ common_length_of (rest i w) (rest (i + p) w) → i + p + r ≤ length w
+end-here w longest i f k {p} e le re = right-inside w i p le re (inside-here w longest i f k e)
+
 left-here : (w : List ℕ) (i p : ℕ) {l : ℕ} → l ≡ left_of w i p → l ≤ i
 left-here w i p e = rw e (left-inside w i p)
 
 pub left_of-left-requires : goal.left_of-left-requires
-left_of-left-requires c = record { inside = inside-here c.args.word.now _ c.args.i c.type_inv.word c.requires c.period_at-period.ensures }
+left_of-left-requires c = record { inside = inside-here _ _ _ c.type_inv.word c.requires c.period_at-period.ensures }
 
 pub returns-then-left-eq0 : goal.returns-then-left-eq0
 returns-then-left-eq0 c =
@@ -35,16 +42,16 @@ returns-then-period-left c =
     rw (← c.period_at-period.ensures) (far-left a.word.now a.i _ _ c.left_of-left.ensures c.if-period-left.true)
 
 pub overflow_add-i : goal.overflow_add-i
-overflow_add-i c = omega (arith, inside-here c.args.word.now _ c.args.i c.type_inv.word c.requires c.period_at-period.ensures)
+overflow_add-i c = omega (arith, inside-here _ _ _ c.type_inv.word c.requires c.period_at-period.ensures)
 
 pub slice_bounds-common_length-count-2 : goal.slice_bounds-common_length-count-2
-slice_bounds-common_length-count-2 c = omega (arith, inside-here c.args.word.now _ c.args.i c.type_inv.word c.requires c.period_at-period.ensures)
+slice_bounds-common_length-count-2 c = omega (arith, inside-here _ _ _ c.type_inv.word c.requires c.period_at-period.ensures)
 
 pub slice_bounds-common_length-start-2 : goal.slice_bounds-common_length-start-2
-slice_bounds-common_length-start-2 c = omega (arith, inside-here c.args.word.now _ c.args.i c.type_inv.word c.requires c.period_at-period.ensures)
+slice_bounds-common_length-start-2 c = omega (arith, inside-here _ _ _ c.type_inv.word c.requires c.period_at-period.ensures)
 
 pub overflow_add-left : goal.overflow_add-left
-overflow_add-left c = omega (arith, right-inside c.args.word.now c.args.i c.period_at-period.result c.left_of-left.ensures c.common_length-right.ensures (inside-here c.args.word.now _ c.args.i c.type_inv.word c.requires c.period_at-period.ensures), left-here c.args.word.now c.args.i c.period_at-period.result c.left_of-left.ensures)
+overflow_add-left c = omega (arith, end-here _ _ _ c.type_inv.word c.requires c.period_at-period.ensures c.left_of-left.ensures c.common_length-right.ensures, left-here _ _ _ c.left_of-left.ensures)
 
 pub returns-then-left-right : goal.returns-then-left-right
 returns-then-left-right c =
@@ -53,10 +60,10 @@ returns-then-left-right c =
     (too_short a.word.now a.i c.period_at-period.result c.left_of-left.ensures c.common_length-right.ensures c.if-left-right.true)
 
 pub overflow_add-end : goal.overflow_add-end
-overflow_add-end c = omega (arith, right-inside c.args.word.now c.args.i c.period_at-period.result c.left_of-left.ensures c.common_length-right.ensures (inside-here c.args.word.now _ c.args.i c.type_inv.word c.requires c.period_at-period.ensures))
+overflow_add-end c = omega (arith, end-here _ _ _ c.type_inv.word c.requires c.period_at-period.ensures c.left_of-left.ensures c.common_length-right.ensures)
 
 pub overflow_add-end-2 : goal.overflow_add-end-2
-overflow_add-end-2 c = omega (arith, right-inside c.args.word.now c.args.i c.period_at-period.result c.left_of-left.ensures c.common_length-right.ensures (inside-here c.args.word.now _ c.args.i c.type_inv.word c.requires c.period_at-period.ensures))
+overflow_add-end-2 c = omega (arith, end-here _ _ _ c.type_inv.word c.requires c.period_at-period.ensures c.left_of-left.ensures c.common_length-right.ensures)
 
 pub returns-then-not-stands_for : goal.returns-then-not-stands_for
 returns-then-not-stands_for c =
@@ -66,7 +73,7 @@ returns-then-not-stands_for c =
     (decides-false c.stands_for.ensures c.if-not-stands_for.true))
 
 pub overflow_sub-result : goal.overflow_sub-result
-overflow_sub-result c = omega (arith, left-here c.args.word.now c.args.i c.period_at-period.result c.left_of-left.ensures)
+overflow_sub-result c = omega (arith, left-here _ _ _ c.left_of-left.ensures)
 
 pub returns : goal.returns
 returns c =
