@@ -27,8 +27,9 @@ long-listing w long = what-refused (tried (listing_door w)) _ refused_line 2 (lo
 -- bytes that stand only behind a record that is too long
 pub same-listing : (w v : List ℕ) → (length w ≤ 4096 → v ≡ []) → listing_of w ≡ listing_of (w ++ v)
 same-listing w v none = elim (cases_lt 4096 (length w)) [
-    inl long ↦ long-listing w long ∙ sym (long-listing (w ++ v) (omega (arith, length-append w v)))
-  | inr short ↦ ap listing_of (sym (ap (λ l. w ++ l) (none short) ∙ append-nil w)) ]
+  | inl long ↦ long-listing w long ∙ sym (long-listing (w ++ v) (omega (arith, length-append w v)))
+  | inr short ↦ ap listing_of (sym (ap (λ l. w ++ l) (none short) ∙ append-nil w))
+]
 
 -- the listing stands at the front of the buffer
 pub listed-text : {w work pairs strict out work' pairs' strict' out' : List ℕ} {r : ℕ} → Listed w work pairs strict out r work' pairs' strict' out'

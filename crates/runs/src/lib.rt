@@ -1,5 +1,7 @@
 //! The runs of a record (request 107; the paper's word is repetition): every stretch of letters that a period makes, as
 //! long as it can be, with its smallest period.
+#![tactic(auto)]
+
 ghost use Rattle.std.specs.Prelude.{[]};
 ghost use Rattle.checks.specs.Lines.{record_lines, Accepted};
 ghost use Rattle.runs.specs.Runs.{RunsDone};

@@ -1,5 +1,7 @@
 //! The Lyndon table (start table): at each place, the length of the longest anti-Lyndon word that starts there and does
 //! not reach past the stretch that the place lies in.
+#![tactic(auto)]
+
 ghost use Rattle.std.specs.Prelude.{[]};
 ghost use Rattle.checks.specs.Lines.{record_lines, Accepted};
 ghost use Rattle.table.specs.Table.{Tabled};

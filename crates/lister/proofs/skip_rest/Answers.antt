@@ -1,5 +1,4 @@
 -- What each turn takes, the next one takes more behind it.
-use Rattle.std.proofs.Common.{rules}
 use Rattle.std.proofs.KnownBytes.{Consumes-trans}
 use Rattle.lister.proofs.skip_rest.Goals as goal
 
