@@ -1,5 +1,7 @@
 //! The answers of the calls as numbers, for callers in C and Rust: the refusal's number, 0 for a result, and beside it
 //! the result's numbers, 0 with a refusal. They have sixteen bits, so each function asks that they fit.
+#![tactic(auto)]
+
 ghost use Rattle.std.specs.Prelude.{◌≡◌};
 ghost use Rattle.checks.specs.Answers.{count_says};
 ghost use Rattle.extension.specs.Extension.{test_says};
@@ -16,7 +18,7 @@ use icfl_breaks::CountedBreaks;
 
 /// A count or a refusal, as two numbers.
 #[repr(C)]
-#[derive(Drop)]
+#[derive(Clone, Copy)]
 pub struct Reply {
     pub refusal: u8,
     pub count: u16,
