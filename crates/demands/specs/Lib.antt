@@ -1,19 +1,10 @@
 -- The customer's demands. Demand1, Demand2, Demand3 and Requests have the statements, Demands all of them; that they hold of the library's calls and of the
--- exported functions are the theorems library-demands and exported-demands (DemandsHold).
+-- exported functions are the theorems library-demands and exported-demands (DemandsHold of proofs/).
 --   Calls              the calls that they speak of: those behind the lines of a door, of which the library's and the exported functions are an instance
 --   Meets              calls that meet the promises behind a door that is sound, as the library's do; ExportedMeets: the exported functions do
---   .. Holds           the theorem of one demand or request, of all such calls; GivenExists: for every record there is what demand 3 speaks of
---   DemandsSuffice     the converse: what meets the demands meets the promises, so nothing else does; AnswersTold, CardTold and ComparisonTold are its parts
+--   PairsHold          of such calls, reader and summary take the pairs that the piece cut wrote
 --   OneCall            the library but for one call
---   Careless           paper 01's careless cutters, and the demand that shuts each of them out
---   CarelessReasons    cuts with breaks that are careless, likewise
---   CarelessComparing  ends, a comparison and stretches that demand 3 shuts out
---   CarelessMarks      cuts, tests and comparisons that are careless of marks, likewise
---   CarelessCards      calls that are careless of cards, likewise
---   CarelessRuns       calls that are careless of repetitions, likewise
---   CarelessPairs      cuts, readers and summaries that are careless of pairs, likewise
---   CarelessReading    readers and summaries that are careless of what they give, likewise
---   CarelessBuffers    cuts and tests that are careless of the lent buffers, likewise
+-- The theorems stand in proofs/: they rest on statements that a must-fail edit changes.
 pub mod Calls
 pub mod Demand1
 pub mod Demand2
@@ -22,26 +13,5 @@ pub mod Requests
 pub mod Demands
 pub mod Meets
 pub mod ExportedMeets
-pub mod Demand1Holds
 pub mod PairsHold
-pub mod Demand2Holds
-pub mod Demand3Holds
-pub mod GivenExists
-pub mod ReadingHolds
-pub mod CardHolds
-pub mod RepetitionsHold
-pub mod DemandsHold
-pub mod AnswersTold
-pub mod CardTold
-pub mod ComparisonTold
-pub mod DemandsSuffice
 pub mod OneCall
-pub mod Careless
-pub mod CarelessReasons
-pub mod CarelessComparing
-pub mod CarelessMarks
-pub mod CarelessCards
-pub mod CarelessRuns
-pub mod CarelessPairs
-pub mod CarelessReading
-pub mod CarelessBuffers

@@ -15,8 +15,8 @@ use Rattle.demands.specs.Calls.{Calls}
 use Rattle.demands.specs.Demand1.{Doorway}
 use Rattle.demands.specs.Demands.{Demands}
 use Rattle.demands.specs.Requests.{Singly, none, next}
-use Rattle.demands.specs.CardHolds.{drop-behind}
-use Rattle.demands.specs.AnswersTold.{answer-is, number-back}
+use Rattle.demands.proofs.CardHolds.{drop-behind}
+use Rattle.demands.proofs.AnswersTold.{answer-is, number-back}
 
 module _ (d : Doorway) (c : Calls) (all : Demands d c)
     (cut : (w work pairs : List ℕ) (r : Counted) (work' pairs' : List ℕ) → c.PieceCut w work pairs r work' pairs'

@@ -14,7 +14,7 @@ use Rattle.runs.specs.Runs.{runs_lines}
 use Rattle.demands.specs.Demand1.{record_door, Demand1}
 use Rattle.demands.specs.Demands.{Demands}
 use Rattle.demands.specs.OneCall.{Listing, lister}
-use Rattle.demands.specs.RepetitionsHold.{count-only, entries-only}
+use Rattle.demands.proofs.RepetitionsHold.{count-only, entries-only}
 
 -- ---- right repetitions
 

@@ -7,13 +7,13 @@ use Rattle.demands.specs.Demand1.{Doorway, record_door, Total}
 use Rattle.demands.specs.Demands.{Demands}
 use Rattle.demands.specs.Meets.{Sound, record-door, Meets, behind-meets, behind-total}
 use Rattle.demands.specs.ExportedMeets.{exported-meets, exported-total}
-use Rattle.demands.specs.Demand1Holds.{filled-says, card-says, demand-1}
-use Rattle.demands.specs.Demand2Holds.{demand-2}
-use Rattle.demands.specs.Demand3Holds.{demand-3}
-use Rattle.demands.specs.GivenExists.{given-exists}
-use Rattle.demands.specs.ReadingHolds.{part-read, summed-up}
-use Rattle.demands.specs.CardHolds.{card-answered}
-use Rattle.demands.specs.RepetitionsHold.{repetitions-listed}
+use Rattle.demands.proofs.Demand1Holds.{filled-says, card-says, demand-1}
+use Rattle.demands.proofs.Demand2Holds.{demand-2}
+use Rattle.demands.proofs.Demand3Holds.{demand-3}
+use Rattle.demands.proofs.GivenExists.{given-exists}
+use Rattle.demands.proofs.ReadingHolds.{part-read, summed-up}
+use Rattle.demands.proofs.CardHolds.{card-answered}
+use Rattle.demands.proofs.RepetitionsHold.{repetitions-listed}
 
 pub all-demands : (d : Doorway) → Sound d → (c : Calls) → Meets d.door c → Total c → Demands d c
 all-demands d s c m t = record {

@@ -43,6 +43,7 @@ module _ (u n : ℕ) (xs ys : List ℕ) (l : u ≤ length xs) where
       ap (drop u) whole ∙ drop_at (take u xs) (take n ys ++ zs) u front ∙ ap (λ (t : List ℕ). take n ys ++ t) (sym later)
 
 every-member : (P : Says ℕ → Type 0) (answers : List (Says ℕ)) → Every P answers → (a : Says ℕ) → Memᴰ a answers → P a
+every-member P [] h a m = elim m [ ]
 every-member P (x ∷ answers) h a (Memᴰ.head e) = rw e h.0
 every-member P (x ∷ answers) h a (Memᴰ.tail m) = every-member P answers h.1 a m
 

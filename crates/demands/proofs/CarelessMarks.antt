@@ -24,8 +24,8 @@ use Rattle.demands.specs.Demand2.{Demand2}
 use Rattle.demands.specs.Demands.{Demands}
 use Rattle.demands.specs.Meets.{Meets}
 use Rattle.demands.specs.OneCall.{Test, tester, cutter, comparer}
-use Rattle.demands.specs.Careless.{CutsAt, counted_at, other-ends, Answering}
-use Rattle.demands.specs.CarelessComparing.{Compares, third_of, no_byte, one_byte, first_two, above_zero}
+use Rattle.demands.proofs.Careless.{CutsAt, counted_at, other-ends, Answering}
+use Rattle.demands.proofs.CarelessComparing.{Compares, third_of, no_byte, one_byte, first_two, above_zero}
 
 abbrev pub m : ℕ
 m = 255

@@ -17,7 +17,7 @@ use Rattle.demands.specs.Demand1.{Doorway}
 use Rattle.demands.specs.Demand3.{Inside}
 use Rattle.demands.specs.Demands.{Demands}
 use Rattle.demands.specs.Meets.{Sound}
-use Rattle.demands.specs.AnswersTold.{comparison-given}
+use Rattle.demands.proofs.AnswersTold.{comparison-given}
 
 module _ (d : Doorway) (s : Sound d) (c : Calls) (all : Demands d c) (w : List ℕ) (first end start other : ℕ) (r : Comparison)
     (h : c.Comparing w first end start other r) where

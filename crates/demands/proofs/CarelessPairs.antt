@@ -15,8 +15,8 @@ use Rattle.summary.specs.Summary.{summary_lines, summary_of, empty_summary}
 use Rattle.demands.specs.Demand1.{record_door, Demand1}
 use Rattle.demands.specs.Demand2.{Demand2}
 use Rattle.demands.specs.OneCall.{Reader, Summing, cutter, reader, summer}
-use Rattle.demands.specs.Careless.{CutsAt, other-pairs, Answering}
-use Rattle.demands.specs.CarelessMarks.{m}
+use Rattle.demands.proofs.Careless.{CutsAt, other-pairs, Answering}
+use Rattle.demands.proofs.CarelessMarks.{m}
 
 -- ---- piece cuts
 

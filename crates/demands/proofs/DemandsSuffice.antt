@@ -32,10 +32,10 @@ use Rattle.demands.specs.Demand1.{Doorway, Untouched, record_door}
 use Rattle.demands.specs.Demand2.{Gave, GavePairs, GaveBoth, Demand2}
 use Rattle.demands.specs.Demands.{Demands}
 use Rattle.demands.specs.Meets.{Sound, record-door, Meets}
-use Rattle.demands.specs.RepetitionsHold.{count-only, entries-only}
-use Rattle.demands.specs.CardTold.{card-told}
-use Rattle.demands.specs.ComparisonTold.{comparison-told}
-use Rattle.demands.specs.AnswersTold.{answer-is, work-is, number-back, says-refused}
+use Rattle.demands.proofs.RepetitionsHold.{count-only, entries-only}
+use Rattle.demands.proofs.CardTold.{card-told}
+use Rattle.demands.proofs.ComparisonTold.{comparison-told}
+use Rattle.demands.proofs.AnswersTold.{answer-is, work-is, number-back, says-refused}
 
 -- calls whose comparison is asked only about records of bytes
 abbrev pub of_bytes : Calls → Calls

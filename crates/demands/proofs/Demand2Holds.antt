@@ -38,7 +38,7 @@ use Rattle.demands.specs.Calls.{Calls}
 use Rattle.demands.specs.Demand1.{Doorway}
 use Rattle.demands.specs.Demand2.{Gave, GavePairs, GaveBoth, Published, Demand2}
 use Rattle.demands.specs.Meets.{Sound, Meets}
-use Rattle.demands.specs.Demand1Holds.{filled-says, breaks-say}
+use Rattle.demands.proofs.Demand1Holds.{filled-says, breaks-say}
 use Rattle.demands.specs.PairsHold.{own_read, own-summed}
 
 gave : {lines : List Line} {n : ℕ} {vs buffer buffer' : List ℕ} {r : Counted} → n ≡ length vs → Filled lines n vs buffer r buffer' → checked (count_says r) ≡ Passed
@@ -110,7 +110,7 @@ module _ (d : Doorway) (sound : Sound d) (c : Calls) (m : Meets d.door c) (w : L
     unmarked = stretches-unmarked w;
     published = λ v h. published v;
     falls = λ work work' h.
-        holds-told w Extension.InverseLyndon (inl refl)
+        holds-told w Extension.InverseLyndon (λ l p r e. cc)
         (verdict-is w work work' Extension.InverseLyndon (m.test w work Extension.InverseLyndon work' h) refl).0;
     fails = λ work work' l p r h. verdict-fails w work work' l p r s (m.test w work (Extension.Failing l p r) work' h);
     tested = λ work work' r h e. (verdict-is w work work' r (m.test w work r work' h) e).1;
