@@ -9,7 +9,6 @@ use Rattle.words.specs.Examples.{a}
 use Rattle.words.specs.Separated.{separated_icfl_ends}
 use Rattle.conditions.specs.Conditions.{are_faulty_record_ends}
 use Rattle.checks.specs.Lines.{tried}
-use Rattle.checks.specs.declared.Checked.TheVariants.{Refused}
 use Rattle.checks.specs.Answers.{numbered, Says, gives, refuses}
 use Rattle.checks.specs.declared.Counted.{Counted}
 use Rattle.checks.proofs.LineLaws.{not-both}

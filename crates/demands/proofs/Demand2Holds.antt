@@ -1,7 +1,7 @@
 -- THEOREM demand-2: the customer's second demand holds of all calls whose answers meet the promises behind a doorway that is sound.
 use Rattle.std.specs.Prelude.{◌≡◌, List, ◌++◌, ℕ, ◌≤◌, ◌<◌, length, drop, get_or}
 use Rattle.std.proofs.Math.Path.{refl}
-use Rattle.std.proofs.Common.{ap, sym, ◌∙◌, inl, arith}
+use Rattle.std.proofs.Common.{ap, sym, ◌∙◌, arith}
 use Rattle.std.proofs.Math.ListN.{length-drop}
 use Rattle.words.specs.Factorizations.{longest_anti_lyndon}
 use Rattle.words.specs.Separated.{separator, separated_icfl, separated_cfl_in, separated_table, separated_breaks}

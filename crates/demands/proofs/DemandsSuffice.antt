@@ -13,7 +13,7 @@ use Rattle.buffers.specs.Buffers.{cleared, written}
 use Rattle.checks.specs.Lines.{Line, tried, record_lines}
 use Rattle.checks.specs.Answers.{number_of, numbered, gives, refuses, checked, count_says, Filled}
 use Rattle.checks.specs.declared.Checked.{Checked}
-use Rattle.checks.specs.declared.Checked.TheVariants.{Passed, Refused}
+use Rattle.checks.specs.declared.Checked.TheVariants.{Passed}
 use Rattle.checks.specs.declared.Counted.{Counted}
 use Rattle.checks.proofs.LineLaws.{not-both, both-passed}
 use Rattle.extension.specs.declared.Extension.{Extension}

@@ -1,4 +1,5 @@
--- The laws that rest on a definition which a must-fail edit changes, and those that cite them; the other laws are in specs/.
+-- The laws that rest on a definition which a must-fail edit changes, and those that cite one of them: such an edit counts only where no law in
+-- specs/ rests on it. Folders by subject, as in specs/.
 pub mod CflIn
 pub mod Judging
 pub mod Lyndon

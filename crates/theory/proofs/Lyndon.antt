@@ -1,5 +1,3 @@
 -- The two kinds of words.
---   WordTests       the tests of Words decide (inverse-lyndon-test, anti-lyndon-test)
---   Suffixes        suffixes of a product, and domination by places
 --   AntiLyndonLaws  products of anti-Lyndon words, and the longest anti-Lyndon prefix
 pub mod AntiLyndonLaws

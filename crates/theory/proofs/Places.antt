@@ -1,5 +1,4 @@
 -- Lists of words by their places in the product.
---   LinkedLaws      parts of a linked list
 --   FirstSuffixes   places whose suffix comes before all earlier ones, and the boundaries of a list
 --   Ends            the ends of a list are its boundaries
 --   EndsRise        the ends of both factorizations rise to the word's length

@@ -1,5 +1,4 @@
 -- Runs, or maximal repetitions (request 107).
---   RisingLaws     lists in which each element has a relation to all later ones; the numbers that pass a test
 --   RepeatsTo      where a period stops; a run ends there; the test for a run
 --   RunsAre        the list has every run, nothing else, each once and in order (runs-sound, runs-complete, runs-rising, runs-unique)
 --   RunsMap        a run stays one where letters are changed for others and kept apart (runs-map)

@@ -1,5 +1,4 @@
 -- Records with separators (request 103): what is made stretch by stretch.
---   Unmarked           words without a separator
 --   Separation         the shape of a record, its stretches, and what is made of them; products
 --   Factors            both factorizations are divisions of the kind that is said, and the only ones; their ends rise
 --   StretchBreaks      the breaks of a stretch, in the record's places
@@ -15,7 +14,6 @@
 --   SeparatedDemand3   demand 3 whole (separated-demand-3)
 --   StrictInside       how many strict ends lie in a part; between two of them, as many as the part has alone
 --   RecordPairs        the pairs of a record: what request 108 says of them (pairs-are)
---   SeparatedLimits    its first sentence fails over separators, and with letters above them
 pub mod Separation
 pub mod Factors
 pub mod StretchBreaks

@@ -1,5 +1,5 @@
 -- DEFINITIONS. What is said of a list of ends of a record: request 109's conditions (Ours), and what a judge of such a list answers (Verdict).
-use Rattle.std.specs.Prelude.{◌≡◌, List, [], ◌∷◌, ℕ, suc, ◌<◌, length, take}
+use Rattle.std.specs.Prelude.{◌≡◌, List, [], ◌∷◌, ℕ, suc, length, take}
 use Rattle.std.proofs.Math.Seq.{slice}
 use Rattle.words.specs.Words.{InverseLyndon}
 use Rattle.words.specs.Separated.{separated_icfl_ends}

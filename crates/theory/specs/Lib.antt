@@ -19,7 +19,7 @@
 --     Repeats, Run                repetition                                       maximal repetition: first place, end, smallest period
 --     SeparatedRun                                                                 the same of a record
 --
--- The laws stand in folders by subject; the file beside a folder says what is in it.
+-- The laws stand in folders by subject, here or in proofs/ (its Lib says which); the file beside a folder says what is in it.
 --   Orders       ⊑, ≪, <ₗ, ≺, the sign, how far words agree; tests that decide
 --   Lyndon       inverse Lyndon and anti-Lyndon words; suffixes of a product
 --   Icfl         the factorization into inverse Lyndon words: its factors and one step

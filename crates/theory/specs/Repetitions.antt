@@ -1,15 +1,9 @@
--- Runs, or maximal repetitions (request 107).
+-- Runs, or maximal repetitions (request 107). More laws of them: proofs/Repetitions.
 --   RisingLaws     lists in which each element has a relation to all later ones; the numbers that pass a test
---   RepeatsTo      where a period stops; a run ends there; the test for a run
---   RunsAre        the list has every run, nothing else, each once and in order (runs-sound, runs-complete, runs-rising, runs-unique)
---   RunsMap        a run stays one where letters are changed for others and kept apart (runs-map)
---   RunSuffixes    a run, the suffixes that begin in it, and the Lyndon table there
---   Roots          the anti-Lyndon word among the first places of a run
---   TwoOrders      the Lyndon tables in both orders of the letters: one of the two entries at a place is 1
---   Found          the run that is looked for at a place
---   Serving        each run is served by one place, where it is found
---   Insertion      runs put into their order one after another
---   RunsFewer      all runs are found so; there are fewer of them than letters (runs-fewer)
+--   RunSuffixes    definitions that contracts cite
+--   TwoOrders      definitions that contracts cite
+--   Found          definitions that contracts cite
+--   Insertion      definitions that contracts cite
 pub mod RisingLaws
 pub mod RunSuffixes
 pub mod TwoOrders

@@ -1,4 +1,3 @@
--- The Lyndon table.
---   LyndonTableCflIn, LyndonTableNext       its entries by the strict cut and by the next smaller suffix
---   Merging         the table from right to left: neighbouring anti-Lyndon words make one
+-- The Lyndon table. More laws of them: proofs/Table.
+--   Merging         definitions that contracts cite
 pub mod Merging

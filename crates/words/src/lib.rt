@@ -1,6 +1,7 @@
 //! Words, their two factorizations and their runs. The definitions are in specs/, with examples; what is said of them
 //! is in the crate theory. The two types here are those that the definition of the breaks is stated in, and in which
 //! the code holds one.
+#![tactic(auto)]
 
 /// The separator letter (request 103: a mark, which a board writes when its thermocouple is open).
 pub const SEPARATOR: u8 = 255;

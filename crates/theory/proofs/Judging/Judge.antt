@@ -1,12 +1,12 @@
 -- The judge of a list of ends, as a function that computes: 0, or how many letters tell that these are not the ends of the record (judged_from), and what its answer
 -- says of a part (part-judged) and of two neighbours (pair-judged). Part by part: does it fall; then, beside the next one: their first difference, then the border.
 -- Of all parts: Verdicts.
-use Rattle.std.specs.Prelude.{◌≡◌, refl, ◌⊎◌, Bool, true, false, length, get_or, leb, ltb, eqb}
+use Rattle.std.specs.Prelude.{◌≡◌, refl, ◌⊎◌, Bool, true, false, length, get_or, leb, ltb}
 use Rattle.std.proofs.Common.{ap, inl, inr, arith}
 use mathlib.Core.List.{List, [], ◌∷◌}
 use Prim.Native.Nat.{ℕ, zero, suc, ◌+◌, ◌-◌, ◌≤◌, ◌<◌}
 use Rattle.std.proofs.Math.Seq.{slice, length-slice}
-use Rattle.words.specs.Words.{◌≪◌, ◌⊑◌, InverseLyndon, is_inverse_lyndon, common_length_of}
+use Rattle.words.specs.Words.{◌≪◌, ◌⊑◌, InverseLyndon, common_length_of}
 use Rattle.theory.specs.Orders.CommonLength.{common-agree, common-sym}
 use Rattle.words.specs.Factorizations.{failing_length, cfl_in}
 use Rattle.theory.specs.Statements.{BelowByBorders}
@@ -14,7 +14,6 @@ use Rattle.theory.specs.Orders.PrefixLaws.{⊑-whole}
 use Rattle.theory.specs.Orders.Decisions.{Decides, holds, fails, leb-test}
 use Rattle.theory.specs.Lyndon.WordTests.{inverse-lyndon-test}
 use Rattle.theory.specs.Icfl.Failing.{failing-is}
-use Rattle.words.specs.Separated.{separator}
 use Rattle.theory.specs.Judging.LastFactor.{last_word}
 use Rattle.theory.proofs.Judging.LastFactor.{common-differs, mismatch-common, last-factor, last-prefix, border-criterion}
 use Rattle.theory.proofs.Judging.Faults.{PartFault, rises, PairFault, shares, exceeds, begins, slice-take}

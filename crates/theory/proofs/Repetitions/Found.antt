@@ -1,6 +1,6 @@
 -- The run that is looked for at a place (found_at), as a program looks for it, and those of the first places (found_below): at most one at each. The period
 -- is 1 after the same letter, else the longest Lyndon word of both orders; how far it repeats to the left and to the right decides (Candidate).
-use Rattle.std.specs.Prelude.{◌≡◌, refl, ◌⊎◌, List, [], ◌∷◌, ◌++◌, Bool, true, false, ◌&&◌, ◌||◌, ℕ, zero, suc, ◌+◌, ◌-◌, ◌*◌, ◌≤◌, ◌<◌, length, get_or, leb, ltb, eqb}
+use Rattle.std.specs.Prelude.{◌≡◌, refl, ◌⊎◌, List, [], ◌∷◌, ◌++◌, Bool, true, false, ◌||◌, ℕ, zero, suc, ◌+◌, ◌-◌, ◌*◌, ◌≤◌, ◌<◌, length, get_or, leb, ltb}
 use Rattle.std.proofs.Common.{inl, inr, arith, length-append}
 use Rattle.std.proofs.Math.Decide.{dec_lt}
 use Rattle.theory.specs.Orders.Decisions.{Decides, holds, fails, decides_and, decides-map, neither-less, leb-test, eqb-test}

@@ -1,7 +1,7 @@
 -- Runs put into their order one after another: each goes before the first that comes later (insert_run, sorted). The sorted list has the same runs
 -- (sorted-member, member-sorted, sorted-length), is in order (sorted-in-order, sorted-rising) and may be moved (sorted-moved); runs put behind others
 -- (sorted-behind); where a run goes (insert-at).
-use Rattle.std.specs.Prelude.{◌≡◌, refl, ◌⊎◌, Bool, true, false, ◌&&◌, ◌||◌, ℕ, zero, suc, ◌+◌, ◌<◌, length, take, drop, get_or, ltb, eqb}
+use Rattle.std.specs.Prelude.{◌≡◌, refl, ◌⊎◌, Bool, true, false, ◌&&◌, ◌||◌, ℕ, zero, suc, ◌+◌, ◌<◌, length, take, drop, get_or}
 use Rattle.std.proofs.Common.{ap, sym, subst, ◌∙◌, inl, inr, ⊎_elim, arith}
 use mathlib.Core.List.Memᴰ
 use mathlib.Core.List.{List, [], ◌∷◌, ◌++◌, map, append-nil, Memᴰ}

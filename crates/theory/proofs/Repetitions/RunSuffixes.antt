@@ -7,7 +7,6 @@ use Rattle.std.proofs.Common.{ap, sym, ◌∙◌, inl, inr, arith, length-drop, 
 use Rattle.std.proofs.Math.Decide.{dec_lt}
 use Rattle.buffers.proofs.PartLaws.{drop-to}
 use Rattle.words.specs.Words.{◌≺◌, mismatch, AntiLyndon}
-use Rattle.words.specs.Factorizations.{lyndon_table}
 use Rattle.theory.specs.Orders.PrefixLaws.{take-⊑, ⊑-drop, ⊑-letters}
 use Rattle.theory.specs.Orders.MismatchLaws.{≪-extend, ≪-not-⊑}
 use Rattle.theory.specs.Orders.InverseLaws.{◌≼◌, ≼_trans, ≺-≼, ≺-not-≼, not-≺-≼, ≼-not-≪}

@@ -1,7 +1,7 @@
 -- The Lyndon tables of a word in both orders of the letters. The other order is that of the letters taken from a bound m (reversed). THEOREM one-order: at
 -- each place one of the two entries is 1. The longer entry tells its order by its last letter (longest-falls, longest-rises): so one list of the longer
 -- ones serves for both tables.
-use Rattle.std.specs.Prelude.{◌≡◌, ◌⊎◌, List, ◌∷◌, map, ℕ, zero, suc, ◌+◌, ◌-◌, ◌≤◌, ◌<◌, max, length, drop, get_or}
+use Rattle.std.specs.Prelude.{◌≡◌, ◌⊎◌, List, ◌∷◌, ℕ, zero, suc, ◌+◌, ◌-◌, ◌≤◌, ◌<◌, length, drop, get_or}
 use Rattle.std.proofs.Common.{ap, sym, subst, ◌∙◌, inl, inr, arith, length-drop, drop_of_length-le, drop-cons, get_or-drop}
 use Rattle.std.proofs.Math.Decide.{dec_lt}
 use Rattle.std.proofs.lemmas.List.{length-map}

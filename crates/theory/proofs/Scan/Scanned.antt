@@ -15,7 +15,7 @@ use Rattle.theory.specs.Lyndon.WordTests.{suffix-loses}
 use Rattle.theory.specs.Icfl.Extension.{prefix-inverse-lyndon}
 use Rattle.theory.proofs.Lyndon.AntiLyndonLaws.{letter-anti-lyndon, anti-inverse-lyndon, longest-unique}
 use Rattle.theory.specs.Icfl.Failing.{Failing}
-use Rattle.theory.specs.Scan.Period.{Period, anti-period, step_less, step_same, period-same, step-more, root-anti-lyndon}
+use Rattle.theory.specs.Scan.Period.{anti-period, step_less, step_same, period-same, step-more, root-anti-lyndon}
 use Rattle.theory.specs.Scan.Scanned.{Scanned, Stops}
 
 pub scanned-one : (w : List ℕ) → 0 < length w → Scanned w 1 0

@@ -8,7 +8,7 @@ use Rattle.words.specs.declared.Fate.{Fate}
 use Rattle.words.specs.declared.Break.{Break}
 use Rattle.theory.specs.Breaks.BreakSteps.{Ended, First, join-ended, ended_same, ended-places, place-append, kept_ends}
 use Rattle.words.specs.Separated.{stretches, breaks_over, separated_icfl, separated_icfl_ends, separated_breaks}
-use Rattle.theory.specs.Stretches.CutSteps.{is_beside_separator, unless_beside, cut_at, CutBy, Uncut}
+use Rattle.theory.specs.Stretches.CutSteps.{is_beside_separator, cut_at, CutBy}
 use Rattle.theory.proofs.Stretches.CutSteps.{separated_first}
 use Rattle.theory.specs.Stretches.Cuts.{Cuts, last, cut, breaks_among}
 

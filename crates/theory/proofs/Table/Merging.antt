@@ -1,7 +1,7 @@
 -- Merging neighbouring anti-Lyndon words, the laws behind the Lyndon table from right to left (Merged). The word w[i..j) is anti-Lyndon,
 -- and the longest one at j is known: if it comes after w[i..j), both make one (merged-more); else w[i..j) is the longest at i
 -- (merged-stops).
-use Rattle.std.specs.Prelude.{◌≡◌, ℕ, ◌+◌, ◌-◌, ◌≤◌, ◌<◌, length, take, drop, get_or}
+use Rattle.std.specs.Prelude.{◌≡◌, ℕ, ◌+◌, ◌-◌, ◌<◌, length, take, drop, get_or}
 use Rattle.std.proofs.Common.{◌∙◌, arith, length-drop, take-append-drop, take-add, length-take-le, drop-cons}
 use mathlib.Core.List.{List, [], ◌++◌, flatten, append-nil}
 use Rattle.std.proofs.Math.Seq.{take-length}
