@@ -13,8 +13,8 @@ use lib.Seq.{slice, take_all, length-slice}
 use borrow.Author.Tests.{le-ltb, eq-eqb}
 use Rattle.words.specs.Separated.{separated_icfl_ends}
 use Rattle.words.specs.Pairs.{separated_pairs}
-use Rattle.theory.proofs.Places.EndsRise.{rises-few}
-use Rattle.theory.proofs.Stretches.Factors.{separated-icfl-ends-rise}
+use Rattle.theory.specs.Places.EndsRise.{rises-few}
+use Rattle.theory.specs.Stretches.Factors.{separated-icfl-ends-rise}
 use Rattle.conditions.specs.Conditions.{last_of, falls, are_faulty_record_ends}
 use Rattle.checks.specs.Lines.{Door, tried, result_line}
 use Rattle.checks.specs.Answers.{number_of, Says, refuses, checked, count_says}

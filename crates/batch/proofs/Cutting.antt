@@ -9,8 +9,8 @@ use lib.ListN.{length, take, drop, get_or, set, replicate, length-append, length
 use lib.Seq.{slice, drop-cons, set_at, length-take-le}
 use Rattle.words.specs.Words.{most_letters}
 use Rattle.words.specs.Pairs.{separated_pairs}
-use Rattle.theory.proofs.Places.EndsRise.{rises-few}
-use Rattle.theory.proofs.Stretches.Factors.{separated-icfl-ends-rise}
+use Rattle.theory.specs.Places.EndsRise.{rises-few}
+use Rattle.theory.specs.Stretches.Factors.{separated-icfl-ends-rise}
 use Rattle.theory.proofs.Stretches.RecordPairs.{pairs-entries}
 use Rattle.buffers.proofs.PartLaws.{part, part-is, rest, rest-is, rest_back}
 use Rattle.conditions.specs.Conditions.{most_records}

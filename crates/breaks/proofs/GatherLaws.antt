@@ -12,7 +12,7 @@ use Rattle.words.specs.declared.Fate.{Fate}
 use Rattle.words.specs.declared.Break.{Break}
 use Rattle.theory.specs.Breaks.BreakSteps.{Ended, kept, joined, kept_ends}
 use Rattle.theory.specs.Stretches.Cuts.{Cuts}
-use Rattle.theory.proofs.Stretches.Cuts.{record-ends, CutAt, cuts-few, record-breaks}
+use Rattle.theory.specs.Stretches.Cuts.{record-ends, CutAt, cuts-few, record-breaks}
 use Rattle.cuts.specs.declared.Counts.{Counts}
 use Rattle.cuts.specs.Cutting.{CutRoom, notes_of, Noted, CutsFound}
 use Rattle.cuts.proofs.NoteLaws.{noted-kept, among-few, few-noted, noted-cut, note-at}

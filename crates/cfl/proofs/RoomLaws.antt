@@ -6,7 +6,7 @@ use native.Mathlib.Omega.{arith}
 use borrow.Author.Tests.{le-ltb}
 use lib.ListN.{length}
 use Rattle.words.specs.Separated.{separated_cfl_in_ends}
-use Rattle.theory.proofs.Places.EndsRise.{rises-few}
+use Rattle.theory.specs.Places.EndsRise.{rises-few}
 use Rattle.theory.proofs.Stretches.Factors.{separated-cfl-in-ends-rise}
 use Rattle.checks.specs.Lines.{tried}
 use Rattle.checks.specs.declared.Checked.TheVariants.{Passed}

@@ -13,7 +13,7 @@ use Rattle.theory.specs.Orders.Decisions.{Decides, holds, fails, leb-test}
 use Rattle.theory.specs.Orders.InverseLaws.{pre, ≺-≼, ≺-not-≼, ≼-not-≪}
 use Rattle.theory.specs.Orders.CommonLength.{Agree, common-agree, agree-sym, agree-⊑, agree-shorter, agree-≪}
 use Rattle.theory.specs.Repetitions.TwoOrders.{reversed}
-use Rattle.theory.proofs.Repetitions.TwoOrders.{UpTo, reversed-length, reversed-at}
+use Rattle.theory.specs.Repetitions.TwoOrders.{UpTo, reversed-length, reversed-at}
 use Rattle.common.specs.Orders.{most_byte, in_order, Precedes}
 
 -- ---- letters

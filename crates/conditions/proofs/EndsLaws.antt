@@ -8,7 +8,7 @@ use lib.ListN.{length}
 use lib.Dec.{eqb}
 use Rattle.theory.specs.Orders.Decisions.{Decides, holds, fails, leb-test, eqb-test, decides-map, decides-true}
 use Rattle.theory.specs.Places.EndsRise.{Rises, done, more}
-use Rattle.theory.proofs.Places.EndsRise.{rises-head, rises-tail, rises-end}
+use Rattle.theory.specs.Places.EndsRise.{rises-head, rises-tail, rises-end}
 use Rattle.conditions.specs.Conditions.{rising, last_of, are_faulty_ends}
 
 -- ---- the definition decides it

@@ -11,7 +11,7 @@ use Rattle.buffers.proofs.PartLaws.{rest, rest-is}
 use Rattle.words.specs.declared.Break.{Break}
 use Rattle.theory.specs.Stretches.CutSteps.{is_beside_separator, unless_beside, cut_at, CutBy}
 use Rattle.theory.specs.Stretches.Cuts.{Cuts, last, cut, breaks_among}
-use Rattle.theory.proofs.Stretches.Cuts.{record-breaks}
+use Rattle.theory.specs.Stretches.Cuts.{record-breaks}
 use Rattle.extension.specs.Extension.{TestRoom}
 use Rattle.cuts.specs.declared.Cut.{Cut}
 use Rattle.cuts.specs.Cutting.{CutRoom, FirstCut, notes_of, CutsFound}

@@ -6,7 +6,7 @@ use native.Mathlib.Omega.{arith}
 use lib.ListN.{length, get_or}
 use Rattle.words.specs.Separated.{separator}
 use Rattle.theory.specs.Stretches.CutSteps.{CutBy, Uncut}
-use Rattle.theory.proofs.Stretches.CutSteps.{separator-cut, separator-last, letter-cut, letter-last}
+use Rattle.theory.specs.Stretches.CutSteps.{separator-cut, separator-last, letter-cut, letter-last}
 use Rattle.extension.specs.declared.Extension.{Extension}
 use Rattle.extension.specs.Extension.{test_says, Verdict}
 use Rattle.extension.proofs.VerdictLaws.{Fails, fails-told, NoneFails, holds-told}

@@ -10,7 +10,7 @@ use lib.Seq.{get_or-take, get_or-drop}
 use Rattle.words.specs.declared.Break.{Break}
 use Rattle.theory.specs.Stretches.CutSteps.{is_beside_separator, unless_beside}
 use Rattle.theory.specs.Stretches.Cuts.{breaks_among}
-use Rattle.theory.proofs.Stretches.Cuts.{cuts-few, CutAt, cut-at}
+use Rattle.theory.specs.Stretches.Cuts.{cuts-few, CutAt, cut-at}
 use Rattle.cuts.specs.Cutting.{notes_of, Noted}
 
 pub noted-kept : {w work work' : List ℕ} {count : ℕ} → drop (length w) work' ≡ drop (length w) work → Noted w work count → Noted w work' count

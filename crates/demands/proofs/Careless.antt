@@ -7,7 +7,8 @@ use Rattle.words.specs.Factorizations.{prefix_length}
 use Rattle.words.specs.Separated.{separated_icfl_ends, separated_cfl_in_ends}
 use Rattle.words.specs.Pairs.{pairs_from, separated_pairs, ends_of}
 use Rattle.words.specs.Examples.{a, b, c}
-use Rattle.theory.proofs.Stretches.RecordPairs.{pairs-ends-from, pairs-number, pairs-entries, pairs-ends}
+use Rattle.theory.specs.Stretches.RecordPairs.{pairs-ends-from, pairs-number}
+use Rattle.theory.proofs.Stretches.RecordPairs.{pairs-entries, pairs-ends}
 use Rattle.buffers.specs.Buffers.{cleared, written}
 use Rattle.checks.specs.Lines.{Line, tried, ◌unless◌then◌, work_line, result_line}
 use Rattle.checks.specs.Answers.{Filled}

@@ -6,21 +6,22 @@ use Rattle.std.proofs.Math.ListN.{length-drop}
 use Rattle.words.specs.Factorizations.{longest_anti_lyndon}
 use Rattle.words.specs.Separated.{separator, separated_icfl, separated_cfl_in, separated_table, separated_breaks}
 use Rattle.theory.specs.Statements.{BoundedExtension}
-use Rattle.theory.proofs.Lyndon.AntiLyndonLaws.{longest-is, longest-positive}
+use Rattle.theory.specs.Lyndon.AntiLyndonLaws.{longest-is, longest-positive}
 use Rattle.theory.specs.Icfl.BoundedExtension.{extension-is}
 use Rattle.theory.specs.Breaks.IcflBreaks.{icfl-breaks}
 use Rattle.theory.specs.Breaks.BreaksOnly.{breaks-only}
 use Rattle.theory.specs.Uniqueness.IcflUnfold.{icfl-whole, icfl-step}
 use Rattle.theory.proofs.CflIn.CflInIs.{cfl-in-is}
 use Rattle.theory.proofs.CflIn.CflInUnique.{cfl-in-unique}
-use Rattle.theory.proofs.Table.LyndonTableCflIn.{lyndon-table-at}
-use Rattle.theory.proofs.Stretches.Separation.{stretches-joined, stretches-unmarked}
-use Rattle.theory.proofs.Stretches.StretchBreaks.{breaks-moved}
+use Rattle.theory.specs.Table.LyndonTableCflIn.{lyndon-table-at}
+use Rattle.theory.specs.Stretches.Separation.{stretches-joined, stretches-unmarked}
+use Rattle.theory.specs.Stretches.StretchBreaks.{breaks-moved}
 use Rattle.theory.proofs.Stretches.RecordPairs.{pairs-entries, pairs-are}
-use Rattle.theory.proofs.Stretches.StretchEnds.{separated-kept-ends}
-use Rattle.theory.proofs.Stretches.Factors.{separated-icfl-is, separated-icfl-unique, separated-cfl-in-is, separated-cfl-in-unique}
+use Rattle.theory.specs.Stretches.StretchEnds.{separated-kept-ends}
+use Rattle.theory.specs.Stretches.Factors.{separated-icfl-is, separated-icfl-unique}
+use Rattle.theory.proofs.Stretches.Factors.{separated-cfl-in-is, separated-cfl-in-unique}
 use Rattle.theory.proofs.Stretches.CflInSteps.{separator-part}
-use Rattle.theory.proofs.Stretches.TableEntries.{separated-table-letter, separated-table-separator, separated-table-length}
+use Rattle.theory.specs.Stretches.TableEntries.{separated-table-letter, separated-table-separator, separated-table-length}
 use Rattle.buffers.specs.Buffers.{cleared}
 use Rattle.checks.specs.Lines.{Line, tried}
 use Rattle.checks.specs.Answers.{gives, checked, count_says, Filled}

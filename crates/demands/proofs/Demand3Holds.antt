@@ -8,8 +8,8 @@ use Rattle.theory.specs.SeparatedStatements.{UnmarkedPieces, SeparatedDemand3}
 use Rattle.theory.specs.Statements.{SignOf, WholePieces}
 use Rattle.theory.specs.Orders.SignLaws.{sign-is}
 use Rattle.theory.specs.Orders.CommonWithin.{common-within-is, common-within-same, common-within-sym, common-within-range}
-use Rattle.theory.proofs.Places.Parts.{rises-below}
-use Rattle.theory.proofs.Stretches.Factors.{separated-icfl-ends-rise}
+use Rattle.theory.specs.Places.Parts.{rises-below}
+use Rattle.theory.specs.Stretches.Factors.{separated-icfl-ends-rise}
 use Rattle.theory.proofs.Stretches.RecordPairs.{pairs-ends}
 use Rattle.theory.proofs.Stretches.SeparatedDemand3.{separated-demand-3}
 use Rattle.checks.specs.Answers.{gives}

@@ -10,7 +10,7 @@ use Rattle.demands.specs.ExportedMeets.{exported-meets, exported-total}
 use Rattle.demands.proofs.Demand1Holds.{filled-says, card-says, demand-1}
 use Rattle.demands.proofs.Demand2Holds.{demand-2}
 use Rattle.demands.proofs.Demand3Holds.{demand-3}
-use Rattle.demands.proofs.GivenExists.{given-exists}
+use Rattle.demands.specs.GivenExists.{given-exists}
 use Rattle.demands.proofs.ReadingHolds.{part-read, summed-up}
 use Rattle.demands.proofs.CardHolds.{card-answered}
 use Rattle.demands.proofs.RepetitionsHold.{repetitions-listed}

@@ -8,7 +8,7 @@ use Rattle.words.specs.Pairs.{separated_pairs, ends_of}
 use Rattle.theory.specs.Orders.Decisions.{true-decides, false-decides}
 use Rattle.theory.specs.Lyndon.WordTests.{inverse-lyndon-test}
 use Rattle.theory.specs.Icfl.BoundedExtension.{extension-not, extension-only}
-use Rattle.theory.proofs.Stretches.TableEntries.{separated-table-length}
+use Rattle.theory.specs.Stretches.TableEntries.{separated-table-length}
 use Rattle.buffers.specs.Buffers.{cleared, written}
 use Rattle.checks.specs.Lines.{Line, tried, record_lines}
 use Rattle.checks.specs.Answers.{number_of, numbered, gives, refuses, checked, count_says, Filled}

@@ -1,5 +1,5 @@
 -- That the demands hold, and that they shut out all other libraries.
---   .. Holds           the theorem of one demand or request, of all such calls; GivenExists: for every record there is what demand 3 speaks of
+--   .. Holds           the theorem of one demand or request, of all such calls
 --   DemandsSuffice     the converse: what meets the demands meets the promises, so nothing else does; AnswersTold, CardTold and ComparisonTold are its parts
 --   Careless           paper 01's careless cutters, and the demand that shuts each of them out
 --   CarelessReasons    cuts with breaks that are careless, likewise
@@ -13,7 +13,6 @@
 pub mod Demand1Holds
 pub mod Demand2Holds
 pub mod Demand3Holds
-pub mod GivenExists
 pub mod ReadingHolds
 pub mod CardHolds
 pub mod RepetitionsHold

@@ -7,10 +7,10 @@ use mathlib.Core.List.{List, [], ◌∷◌, ◌++◌}
 use Prim.Native.Nat.{ℕ, zero, suc, ◌≤◌, ◌<◌}
 use Rattle.words.specs.Pairs.{ends_of}
 use Rattle.theory.specs.Statements.{Adjacent, here, there}
-use Rattle.theory.proofs.Places.Ends.{adjacent-cases, adjacent-one}
+use Rattle.theory.specs.Places.Ends.{adjacent-cases, adjacent-one}
 use Rattle.theory.specs.Places.EndsRise.{Rises, done, more}
-use Rattle.theory.proofs.Places.EndsRise.{rises-most}
-use Rattle.theory.proofs.Places.Parts.{rises-adjacent}
+use Rattle.theory.specs.Places.EndsRise.{rises-most}
+use Rattle.theory.specs.Places.Parts.{rises-adjacent}
 use Rattle.checks.specs.Lines.{tried}
 use Rattle.checks.specs.Answers.{numbered}
 use Rattle.checks.specs.declared.Checked.TheVariants.{Passed}

@@ -3,7 +3,8 @@
 use Rattle.std.specs.Prelude.{◌≡◌, List, ◌++◌, ℕ, ◌<◌, length}
 use Rattle.std.proofs.Common.{ap, ◌∙◌}
 use Rattle.words.specs.Runs.{Triple, separated_runs}
-use Rattle.theory.proofs.Stretches.SeparatedRuns.{separated-runs-sound, separated-runs-complete, separated-runs-rising, separated-runs-unique, separated-runs-fewer}
+use Rattle.theory.specs.Stretches.SeparatedRuns.{separated-runs-rising}
+use Rattle.theory.proofs.Stretches.SeparatedRuns.{separated-runs-sound, separated-runs-complete, separated-runs-unique, separated-runs-fewer}
 use Rattle.buffers.specs.Buffers.{written}
 use Rattle.checks.specs.Lines.{Line, tried}
 use Rattle.checks.specs.declared.Checked.TheVariants.{Passed}

@@ -3,8 +3,9 @@
 --   Calls              the calls that they speak of: those behind the lines of a door, of which the library's and the exported functions are an instance
 --   Meets              calls that meet the promises behind a door that is sound, as the library's do; ExportedMeets: the exported functions do
 --   PairsHold          of such calls, reader and summary take the pairs that the piece cut wrote
+--   GivenExists        for every record there is what demand 3 speaks of
 --   OneCall            the library but for one call
--- The theorems stand in proofs/: they rest on statements that a must-fail edit changes.
+-- The other theorems stand in proofs/: they rest on statements that a must-fail edit changes.
 pub mod Calls
 pub mod Demand1
 pub mod Demand2
@@ -14,4 +15,5 @@ pub mod Demands
 pub mod Meets
 pub mod ExportedMeets
 pub mod PairsHold
+pub mod GivenExists
 pub mod OneCall

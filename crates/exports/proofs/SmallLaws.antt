@@ -8,9 +8,10 @@ use native.Mathlib.Omega.{arith}
 use lib.ListN.{length, get_or}
 use Rattle.words.specs.Separated.{separated_icfl_ends, separated_breaks}
 use Rattle.theory.specs.Orders.CommonWithin.{common-within-short}
-use Rattle.theory.proofs.Places.EndsRise.{rises-few}
-use Rattle.theory.proofs.Stretches.Factors.{separated-icfl-ends-rise, separated-cfl-in-ends-rise}
-use Rattle.theory.proofs.Stretches.StretchBreaks.{separated-breaks-few}
+use Rattle.theory.specs.Places.EndsRise.{rises-few}
+use Rattle.theory.specs.Stretches.Factors.{separated-icfl-ends-rise}
+use Rattle.theory.proofs.Stretches.Factors.{separated-cfl-in-ends-rise}
+use Rattle.theory.specs.Stretches.StretchBreaks.{separated-breaks-few}
 use Rattle.theory.proofs.Stretches.SeparatedRuns.{separated-runs-few}
 use Rattle.conditions.proofs.RecordEndsLaws.{listed}
 use Rattle.checks.specs.Lines.{Line, Door, tried, decided, ◌unless◌then◌, Accepted}

@@ -12,9 +12,9 @@ use Rattle.theory.specs.Lyndon.WordTests.{inverse-lyndon-test}
 use Rattle.theory.specs.Icfl.Failing.{Failing, failing-unique, failing-not}
 use Rattle.theory.specs.Icfl.BorderLength.{prefix-length}
 use Rattle.theory.specs.Scan.Scanned.{Scanned, Stops}
-use Rattle.theory.proofs.Scan.Scanned.{scanned-one, scanned-whole, scanned-failing}
+use Rattle.theory.specs.Scan.Scanned.{scanned-one, scanned-whole, scanned-failing}
 use Rattle.theory.specs.Scan.ScannedBorders.{Table, ShortestBorder}
-use Rattle.theory.proofs.Scan.ScannedBorders.{table-set, scanned-border, Walk, walk-on, walk-stops, walk_ends, shortest-border-length}
+use Rattle.theory.specs.Scan.ScannedBorders.{table-set, scanned-border, Walk, walk-on, walk-stops, walk_ends, shortest-border-length}
 use Rattle.scan.specs.declared.Scan.{Scan}
 use Rattle.scan.specs.State.{start_state, step_state}
 use Rattle.checks.specs.Answers.{gives}

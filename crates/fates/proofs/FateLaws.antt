@@ -10,7 +10,7 @@ use Rattle.words.specs.declared.Fate.{Fate}
 use Rattle.words.specs.declared.Fate.TheVariants.{Joined}
 use Rattle.words.specs.declared.Break.{Break}
 use Rattle.theory.specs.Breaks.BreakSteps.{Ended, kept, joined, kept_ends}
-use Rattle.theory.proofs.Stretches.Cuts.{FirstOf}
+use Rattle.theory.specs.Stretches.Cuts.{FirstOf}
 use Rattle.fates.specs.Fates.{Near, fate_by, break_by}
 
 module _ (w : List ℕ) (i : ℕ) (b : Break) (bs : List Break) (f : FirstOf w i b bs) where

@@ -17,7 +17,7 @@ use Rattle.words.specs.declared.Break.{Break}
 use Rattle.theory.specs.Breaks.BreakSteps.{kept_ends}
 use Rattle.theory.specs.Stretches.CutSteps.{is_beside_separator, unless_beside}
 use Rattle.theory.specs.Stretches.Cuts.{Cuts, breaks_among}
-use Rattle.theory.proofs.Stretches.Cuts.{record-ends, cuts_first, FirstOf, CutAt, record-breaks}
+use Rattle.theory.specs.Stretches.Cuts.{record-ends, cuts_first, FirstOf, CutAt, record-breaks}
 use Rattle.breaks.specs.declared.Found.{Found}
 use Rattle.cuts.specs.Cutting.{notes_of, Noted}
 use Rattle.cuts.proofs.NoteLaws.{few-noted, noted-cut, note-at}

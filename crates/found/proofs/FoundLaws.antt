@@ -9,10 +9,11 @@ use lib.ListN.{length, drop, get_or}
 use Rattle.buffers.proofs.PartLaws.{rest, rest-is}
 use Rattle.words.specs.Words.{common_length_of}
 use Rattle.words.specs.Runs.{Triple, repeats_to}
-use Rattle.theory.proofs.Repetitions.RepeatsTo.{repeats-to-inside}
-use Rattle.theory.proofs.Repetitions.TwoOrders.{UpTo, longest-inside}
+use Rattle.theory.specs.Repetitions.RepeatsTo.{repeats-to-inside}
+use Rattle.theory.specs.Repetitions.TwoOrders.{UpTo}
+use Rattle.theory.proofs.Repetitions.TwoOrders.{longest-inside}
 use Rattle.theory.specs.Repetitions.Found.{left_of, Counts, found_with, found_period}
-use Rattle.theory.proofs.Repetitions.Found.{EqualLeft, equal-left-more, agree-left-is, agree-left-unique, found-one, found_none, period-same, period-other}
+use Rattle.theory.specs.Repetitions.Found.{EqualLeft, equal-left-more, agree-left-is, agree-left-unique, found-one, found_none, period-same, period-other}
 use Rattle.common.specs.Orders.{most_byte}
 
 -- ---- to the left

@@ -9,7 +9,7 @@ use lib.ListN.{length, take, drop, get_or, set}
 use lib.Seq.{sets, get_or-drop}
 use Rattle.buffers.proofs.GroupLaws.{grouped-append, grouped-length}
 use Rattle.words.specs.Runs.{Triple}
-use Rattle.theory.proofs.Repetitions.Insertion.{run_at}
+use Rattle.theory.specs.Repetitions.Insertion.{run_at}
 use Rattle.inserting.specs.Entries.{run_entries, entries_of_runs}
 use Rattle.inserting.specs.Inserting.{run_from, triples}
 

@@ -12,7 +12,7 @@ use Rattle.buffers.proofs.GroupLaws.{stored, stored-before, stored-from}
 use Rattle.words.specs.Runs.{Triple}
 use Rattle.theory.specs.RunStatements.{Earlier}
 use Rattle.theory.specs.Repetitions.Insertion.{insert_run}
-use Rattle.theory.proofs.Repetitions.Insertion.{run_at, insert-before, insert-at, insert-length}
+use Rattle.theory.specs.Repetitions.Insertion.{run_at, insert-before, insert-at, insert-length}
 use Rattle.inserting.specs.Entries.{run_entries, entries_of_runs}
 use Rattle.inserting.specs.Inserting.{run_from, triples, InsertRoom, Freed, RoomMade}
 use Rattle.inserting.proofs.InsertLaws.{entries-append, entries-length, triples-length, entries-triples, triples-at, triples-take}

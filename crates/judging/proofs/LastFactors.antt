@@ -10,9 +10,10 @@ use Rattle.words.specs.Factorizations.{cfl_in}
 use Rattle.theory.specs.Orders.PrefixLaws.{take-⊑-take}
 use Rattle.theory.specs.Icfl.Extension.{prefix-inverse-lyndon}
 use Rattle.theory.specs.Scan.Scanned.{Scanned}
-use Rattle.theory.proofs.Scan.Scanned.{scanned-one}
+use Rattle.theory.specs.Scan.Scanned.{scanned-one}
 use Rattle.theory.specs.Judging.LastFactor.{last_word}
-use Rattle.theory.proofs.Judging.JudgeSteps.{scanned-border, scanned-from, scanned-all, last-border, last_none}
+use Rattle.theory.specs.Judging.JudgeSteps.{scanned-border, scanned-from, scanned-all}
+use Rattle.theory.proofs.Judging.JudgeSteps.{last-border, last_none}
 use Rattle.scan.specs.declared.Scan.{Scan}
 use Rattle.scan.specs.State.{start_state, Resumes, Rests}
 use Rattle.judging.specs.Judging.{Bordered, BorderScanned, ScannedWhole}

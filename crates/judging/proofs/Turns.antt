@@ -10,9 +10,9 @@ use mathlib.Core.Bool.{true, false}
 use lib.Seq.{slice, length-slice}
 use Rattle.buffers.proofs.PartLaws.{part, part-is}
 use Rattle.words.specs.Separated.{separator}
-use Rattle.theory.proofs.Scan.Scanned.{scanned-one, scanned-failing, scanned-whole}
+use Rattle.theory.specs.Scan.Scanned.{scanned-one, scanned-failing, scanned-whole}
 use Rattle.theory.specs.Judging.Judge.{or_else, judged_part, judged_pair, judged_turn}
-use Rattle.theory.proofs.Judging.JudgeSteps.{judge-part-whole, judge-part-failing}
+use Rattle.theory.specs.Judging.JudgeSteps.{judge-part-whole, judge-part-failing}
 use Rattle.scan.specs.declared.Scan.{Scan}
 use Rattle.scan.specs.State.{start_state, Resumes, Rests}
 use Rattle.judging.specs.Judging.{Neighbours, Turn}

@@ -12,9 +12,10 @@ use Rattle.words.specs.Words.{most_letters}
 use Rattle.words.specs.Separated.{separated_icfl_ends, separated_cfl_in_ends}
 use Rattle.words.specs.Pairs.{separated_pairs}
 use Rattle.theory.specs.Places.EndsRise.{Rises, done, more}
-use Rattle.theory.proofs.Places.EndsRise.{rises-few, rises-inside, rises-some}
-use Rattle.theory.proofs.Stretches.Factors.{separated-icfl-ends-rise, separated-cfl-in-ends-rise}
-use Rattle.theory.proofs.Places.PairedLists.{paired-inside}
+use Rattle.theory.specs.Places.EndsRise.{rises-few, rises-inside, rises-some}
+use Rattle.theory.specs.Stretches.Factors.{separated-icfl-ends-rise}
+use Rattle.theory.proofs.Stretches.Factors.{separated-cfl-in-ends-rise}
+use Rattle.theory.specs.Places.PairedLists.{paired-inside}
 use Rattle.theory.proofs.Stretches.RecordPairs.{pairs-entries, pairs-paired}
 use Rattle.checks.specs.Lines.{Accepted}
 use Rattle.summary.specs.Summary.{lengths_from, greatest, start_of, bands_of, summary_of}

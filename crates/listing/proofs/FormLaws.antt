@@ -12,9 +12,10 @@ use lib.ListN.{length}
 use Rattle.words.specs.Separated.{separated_icfl_ends, separated_cfl_in_ends}
 use Rattle.words.specs.Pairs.{separated_pairs}
 use Rattle.theory.specs.Places.EndsRise.{Rises}
-use Rattle.theory.proofs.Places.EndsRise.{rises-few, rises-inside, rises-some}
-use Rattle.theory.proofs.Places.PairedLists.{paired-inside}
-use Rattle.theory.proofs.Stretches.Factors.{separated-icfl-ends-rise, separated-cfl-in-ends-rise}
+use Rattle.theory.specs.Places.EndsRise.{rises-few, rises-inside, rises-some}
+use Rattle.theory.specs.Places.PairedLists.{paired-inside}
+use Rattle.theory.specs.Stretches.Factors.{separated-icfl-ends-rise}
+use Rattle.theory.proofs.Stretches.Factors.{separated-cfl-in-ends-rise}
 use Rattle.theory.proofs.Stretches.RecordPairs.{pairs-entries, pairs-paired}
 use Rattle.checks.specs.Lines.{tried, record_lines, Accepted}
 use Rattle.checks.specs.declared.Checked.TheVariants.{Passed}

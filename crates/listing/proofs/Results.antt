@@ -10,8 +10,9 @@ use borrow.Author.Tests.{le-ltb}
 use lib.ListN.{length, take}
 use Rattle.words.specs.Words.{most_letters}
 use Rattle.words.specs.Separated.{separated_icfl_ends, separated_cfl_in_ends}
-use Rattle.theory.proofs.Places.EndsRise.{rises-few}
-use Rattle.theory.proofs.Stretches.Factors.{separated-icfl-ends-rise, separated-cfl-in-ends-rise}
+use Rattle.theory.specs.Places.EndsRise.{rises-few}
+use Rattle.theory.specs.Stretches.Factors.{separated-icfl-ends-rise}
+use Rattle.theory.proofs.Stretches.Factors.{separated-cfl-in-ends-rise}
 use Rattle.words.specs.Pairs.{separated_pairs}
 use Rattle.theory.proofs.Stretches.RecordPairs.{pairs-ends}
 use Rattle.buffers.specs.Buffers.{cleared, written}

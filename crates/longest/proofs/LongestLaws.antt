@@ -13,13 +13,15 @@ use Rattle.buffers.proofs.PartLaws.{part}
 use Rattle.words.specs.Words.{◌≺◌}
 use Rattle.words.specs.Factorizations.{longest_anti_lyndon}
 use Rattle.theory.specs.Orders.Decisions.{Decides, holds, fails, leb-test}
-use Rattle.theory.proofs.Table.LyndonTableCflIn.{lyndon-table-at}
+use Rattle.theory.specs.Table.LyndonTableCflIn.{lyndon-table-at}
 use Rattle.theory.specs.Table.Merging.{Merged}
 use Rattle.theory.proofs.Table.Merging.{merged-more, merged-stops, merged-ends}
 use Rattle.theory.specs.Repetitions.RunSuffixes.{entry_at}
-use Rattle.theory.proofs.Repetitions.RunSuffixes.{same-letter, entry-inside, entry-positive}
+use Rattle.theory.specs.Repetitions.RunSuffixes.{same-letter}
+use Rattle.theory.proofs.Repetitions.RunSuffixes.{entry-inside, entry-positive}
 use Rattle.theory.specs.Repetitions.TwoOrders.{reversed, longer_entry}
-use Rattle.theory.proofs.Repetitions.TwoOrders.{Falls, smaller, goes_on, entry-one, UpTo, reversed-length, reversed-at, longest-inside, longest-falls, longest-rises}
+use Rattle.theory.specs.Repetitions.TwoOrders.{Falls, smaller, goes_on, UpTo, reversed-length, reversed-at}
+use Rattle.theory.proofs.Repetitions.TwoOrders.{entry-one, longest-inside, longest-falls, longest-rises}
 use Rattle.common.specs.Orders.{most_byte, in_order, Precedes}
 use Rattle.longest.specs.Longest.{LongestAfter, LongestFilled}
 use Rattle.common.proofs.InOrderLaws.{in-order-length, in-order-part}

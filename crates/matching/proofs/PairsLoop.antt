@@ -14,7 +14,8 @@ use Rattle.words.specs.Separated.{UpToSeparator, separated_cfl_in_ends}
 use Rattle.words.specs.Pairs.{ends_of}
 use Rattle.theory.specs.Orders.Decisions.{Decides, holds, fails}
 use Rattle.theory.specs.Judging.Judge.{judged_turn}
-use Rattle.theory.proofs.Judging.PairsFit.{PairsFit, done, more, fit-end, fit-rises, fit-judged, fit_count, fit-rest, fit-most, fit-own, own-fit}
+use Rattle.theory.specs.Judging.PairsFit.{PairsFit, done, more, fit-end, fit-rises, fit-judged, fit_count, fit-rest, fit-most}
+use Rattle.theory.proofs.Judging.PairsFit.{fit-own, own-fit}
 use Rattle.judging.specs.Judging.{Turn}
 use Rattle.parsing.specs.Parsing.{PairsLeft, PairRead}
 use Rattle.parsing.specs.declared.Pair.{Pair}

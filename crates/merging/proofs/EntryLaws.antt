@@ -7,10 +7,10 @@ use native.Mathlib.Omega.{arith}
 use native.Mathlib.Decide.{ℕ_discrete}
 use lib.ListN.{length, drop, get_or, length-drop, get_or-eq_default}
 use Rattle.words.specs.Factorizations.{longest_anti_lyndon}
-use Rattle.theory.proofs.Lyndon.AntiLyndonLaws.{longest-is, longest-positive}
-use Rattle.theory.proofs.Table.LyndonTableCflIn.{lyndon-table-at}
+use Rattle.theory.specs.Lyndon.AntiLyndonLaws.{longest-is, longest-positive}
+use Rattle.theory.specs.Table.LyndonTableCflIn.{lyndon-table-at}
 use Rattle.words.specs.Separated.{separator, UpToSeparator, separated_table}
-use Rattle.theory.proofs.Stretches.TableEntries.{separated-table-letter, separated-table-other, separated-table-separator, separated-table-length}
+use Rattle.theory.specs.Stretches.TableEntries.{separated-table-letter, separated-table-other, separated-table-separator, separated-table-length}
 
 pub table-end : (w : List ℕ) (i : ℕ) → length w ≤ i → get_or (separated_table w) i 0 ≡ 0
 table-end w i l = get_or-eq_default (separated_table w) 0 {n = i} (rw separated-table-length l)

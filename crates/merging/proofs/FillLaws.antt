@@ -9,7 +9,7 @@ use lib.Seq.{drop_at}
 use Rattle.buffers.specs.Buffers.{written}
 use Rattle.buffers.proofs.BufferLaws.{FilledFrom, filled-store, filled-read}
 use Rattle.words.specs.Separated.{UpToSeparator, separated_table}
-use Rattle.theory.proofs.Stretches.TableEntries.{separated-table-length}
+use Rattle.theory.specs.Stretches.TableEntries.{separated-table-length}
 use Rattle.merging.specs.Steps.{TableRoom, NextKnown}
 use Rattle.merging.proofs.EntryLaws.{table-end, entry_at, entry-fits}
 

@@ -14,8 +14,8 @@ use Rattle.words.specs.Words.{◌≺◌}
 use Rattle.words.specs.Factorizations.{longest_anti_lyndon}
 use Rattle.words.specs.Separated.{separator, UpToSeparator, separated_table}
 use Rattle.theory.specs.Orders.Decisions.{decides-false}
-use Rattle.theory.proofs.Lyndon.AntiLyndonLaws.{longest-positive}
-use Rattle.theory.proofs.Stretches.TableEntries.{separated-table-separator}
+use Rattle.theory.specs.Lyndon.AntiLyndonLaws.{longest-positive}
+use Rattle.theory.specs.Stretches.TableEntries.{separated-table-separator}
 use Rattle.theory.specs.Table.Merging.{Merged}
 use Rattle.theory.proofs.Table.Merging.{merged-more, merged-stops, merged-ends}
 use Rattle.merging.specs.Steps.{SeparatorAlone, LetterJoins}

@@ -13,10 +13,11 @@ use Rattle.buffers.proofs.PartLaws.{part, part-is}
 use Rattle.words.specs.Separated.{separated_icfl_ends, separated_cfl_in_ends}
 use Rattle.words.specs.Pairs.{ends_inside, pairs_from, separated_pairs}
 use Rattle.theory.specs.Statements.{Adjacent, here, there, Part}
-use Rattle.theory.proofs.Places.EndsRise.{rises-inside, rises-few, rises-some}
-use Rattle.theory.proofs.Places.Parts.{rises-adjacent}
-use Rattle.theory.proofs.Stretches.Factors.{separated-icfl-ends-rise, separated-cfl-in-ends-rise}
-use Rattle.theory.proofs.Stretches.StrictInside.{inside-few}
+use Rattle.theory.specs.Places.EndsRise.{rises-inside, rises-few, rises-some}
+use Rattle.theory.specs.Places.Parts.{rises-adjacent}
+use Rattle.theory.specs.Stretches.Factors.{separated-icfl-ends-rise}
+use Rattle.theory.proofs.Stretches.Factors.{separated-cfl-in-ends-rise}
+use Rattle.theory.specs.Stretches.StrictInside.{inside-few}
 use Rattle.theory.proofs.Stretches.RecordPairs.{pairs-entries, count-alone}
 
 -- a letter alone has one anti-Lyndon factor

@@ -13,9 +13,9 @@ use borrow.Author.Tests.{ltb-false, le-ltb, ne_eqb, eqb-false}
 use Rattle.theory.specs.Orders.Decisions.{Decides, holds, fails, eqb-test}
 use Rattle.words.specs.Pairs.{separated_pairs, ends_of}
 use Rattle.theory.specs.Places.EndsRise.{Rises}
-use Rattle.theory.proofs.Places.EndsRise.{rises-head, rises-tail, rises-end, rises-some}
-use Rattle.theory.proofs.Places.PairedLists.{Paired, done, more, paired-rise, paired-number}
-use Rattle.theory.proofs.Stretches.Factors.{separated-icfl-ends-rise}
+use Rattle.theory.specs.Places.EndsRise.{rises-head, rises-tail, rises-end, rises-some}
+use Rattle.theory.specs.Places.PairedLists.{Paired, done, more, paired-rise, paired-number}
+use Rattle.theory.specs.Stretches.Factors.{separated-icfl-ends-rise}
 use Rattle.theory.proofs.Stretches.RecordPairs.{pairs-entries, pairs-paired}
 use Rattle.pairs.specs.PairedList.{are_faulty_counts, are_faulty_pairs}
 use Rattle.conditions.specs.Conditions.{are_faulty_ends}

@@ -5,8 +5,8 @@ use Prim.Native.Nat.{ℕ, ◌≤◌, ◌<◌}
 use lib.ListN.{length, get_or}
 use borrow.Author.Tests.{leb-false}
 use Rattle.words.specs.Pairs.{ends_of}
-use Rattle.theory.proofs.Places.EndsRise.{rises-inside, rises-at}
-use Rattle.theory.proofs.Places.PairedLists.{paired-rise}
+use Rattle.theory.specs.Places.EndsRise.{rises-inside, rises-at}
+use Rattle.theory.specs.Places.PairedLists.{paired-rise}
 use Rattle.pairs.specs.PairedList.{factor_begin}
 use Rattle.pairs.proofs.PairsLaws.{pairs-accepted}
 use Rattle.checks.specs.declared.Checked.TheVariants.{Passed}

@@ -8,7 +8,7 @@ use native.Mathlib.Omega.{arith}
 use lib.ListN.{length, get_or}
 use Rattle.theory.specs.Orders.Decisions.{Decides, holds, fails, eqb-test}
 use Rattle.theory.specs.Scan.Scanned.{Scanned}
-use Rattle.theory.proofs.Scan.Scanned.{scanned-same, scanned-less}
+use Rattle.theory.specs.Scan.Scanned.{scanned-same, scanned-less}
 use Rattle.scan.specs.declared.Scan.{Scan}
 use Rattle.scan.specs.State.{step_state}
 

@@ -14,9 +14,10 @@ use Rattle.buffers.proofs.PartLaws.{rest, rest-is}
 use Rattle.words.specs.Factorizations.{longest_anti_lyndon, ends_from}
 use Rattle.words.specs.Separated.{separator, separated_cfl_in, separated_cfl_in_ends}
 use Rattle.theory.proofs.Stretches.Separation.{separated-cfl-in-concat}
-use Rattle.theory.proofs.Stretches.CflInSteps.{separated-cfl-in-empty, separated-cfl-in-separator, separated-cfl-in-letter}
+use Rattle.theory.specs.Stretches.CflInSteps.{separated-cfl-in-empty, separated-cfl-in-separator}
+use Rattle.theory.proofs.Stretches.CflInSteps.{separated-cfl-in-letter}
 use Rattle.theory.specs.Scan.Scanned.{Scanned, Stops}
-use Rattle.theory.proofs.Scan.Scanned.{scanned-one, scanned-longest, scanned-after, border-front}
+use Rattle.theory.specs.Scan.Scanned.{scanned-one, scanned-longest, scanned-after, border-front}
 use Rattle.scan.specs.declared.Scan.{Scan}
 use Rattle.scan.specs.State.{start_state, Resumes, Rests}
 use Rattle.strict.specs.declared.Run.{Run}

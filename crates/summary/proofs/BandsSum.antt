@@ -9,7 +9,7 @@ use lib.ListN.{length}
 use Rattle.words.specs.Words.{most_letters}
 use Rattle.words.specs.Pairs.{ends_of}
 use Rattle.theory.specs.Places.EndsRise.{Rises, done, more}
-use Rattle.theory.proofs.Places.EndsRise.{rises-few}
+use Rattle.theory.specs.Places.EndsRise.{rises-few}
 use Rattle.checks.specs.declared.Checked.{Checked}
 use Rattle.checks.specs.declared.Checked.TheVariants.{Passed, Refused}
 use Rattle.checks.specs.Lines.{Line, tried, decided}

@@ -6,13 +6,13 @@ use native.Mathlib.Omega.{arith}
 use lib.ListN.{length}
 use Rattle.words.specs.Words.{most_letters}
 use Rattle.theory.specs.Places.EndsRise.{Rises}
-use Rattle.theory.proofs.Places.EndsRise.{rises-few, rises-inside, rises-at}
+use Rattle.theory.specs.Places.EndsRise.{rises-few, rises-inside, rises-at}
 use Rattle.checks.specs.declared.Checked.TheVariants.{Passed}
 use Rattle.checks.specs.Lines.{Line, tried, Accepted}
 use Rattle.checks.specs.Doors.{Guards}
 use Rattle.checks.proofs.LineLaws.{both-passed, unmet}
 use Rattle.words.specs.Pairs.{ends_of}
-use Rattle.theory.proofs.Places.PairedLists.{paired-rise, paired-number}
+use Rattle.theory.specs.Places.PairedLists.{paired-rise, paired-number}
 use Rattle.pairs.proofs.PairsLaws.{pairs-accepted}
 use Rattle.summary.specs.Summary.{summary_lines, Summable}
 

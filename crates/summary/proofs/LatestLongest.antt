@@ -12,9 +12,9 @@ use lib.Dec.{ltb}
 use Rattle.theory.specs.Orders.Decisions.{neither-less}
 use Rattle.words.specs.Pairs.{ends_of}
 use Rattle.theory.specs.Statements.{Adjacent, here, there}
-use Rattle.theory.proofs.Places.Ends.{adjacent-cases, adjacent-one}
+use Rattle.theory.specs.Places.Ends.{adjacent-cases, adjacent-one}
 use Rattle.theory.specs.Places.EndsRise.{Rises, done, more}
-use Rattle.theory.proofs.Places.Parts.{rises-adjacent}
+use Rattle.theory.specs.Places.Parts.{rises-adjacent}
 use Rattle.checks.specs.declared.Checked.{Checked}
 use Rattle.checks.specs.declared.Checked.TheVariants.{Passed, Refused}
 use Rattle.checks.specs.Lines.{Line, tried, decided}

@@ -1,15 +1,7 @@
--- Lists of words by their places in the product.
+-- Lists of words by their places in the product. Laws that rest on what a must-fail edit changes; the others: specs/Places.
 --   FirstSuffixes   places whose suffix comes before all earlier ones, and the boundaries of a list
---   Ends            the ends of a list are its boundaries
 --   EndsRise        the ends of both factorizations rise to the word's length
---   PairedLists     lists of pairs: ends that rise, each with a count (request 108)
---   Parts           the words between neighbouring ends
---   Ranges          two suffixes over a range that ends at such a place
 --   Demand3         demand 3 whole (demand-3)
 pub mod FirstSuffixes
-pub mod Ends
 pub mod EndsRise
-pub mod PairedLists
-pub mod Parts
-pub mod Ranges
 pub mod Demand3

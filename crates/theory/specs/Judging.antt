@@ -1,5 +1,17 @@
--- Lists of ends judged by the parts that they bound (request 109). More laws of them: proofs/Judging.
---   LastFactor      definitions that contracts cite
---   Judge           definitions that contracts cite
+-- Lists of ends judged by the parts that they bound (request 109). The rest of the laws: proofs/Judging.
+--   EndsUnique      the record's own ends are Ours, the only ones (ours-is, ours-unique); a run of whole parts keeps its ends (ours-run)
+--   LastFactor      the border condition by the last factor of cfl_in (border-criterion)
+--   Faults          the ways in which a list fails, and how many letters tell (fault-tells)
+--   Judge           a judge that computes, part by part (judged_from)
+--   Verdicts        what it answers is a Verdict (judge-is)
+--   JudgeSteps      what its code leans on
+--   PairsFit        a list of pairs by the judge and the counts of its parts (own-fit, fit-own)
+--   JudgeExamples   a list for each fault
+pub mod EndsUnique
 pub mod LastFactor
+pub mod Faults
 pub mod Judge
+pub mod Verdicts
+pub mod JudgeSteps
+pub mod PairsFit
+pub mod JudgeExamples

@@ -25,7 +25,7 @@
 --   Icfl         the factorization into inverse Lyndon words: its factors and one step
 --   Uniqueness   it is the only one of its kind
 --   Breaks       the breaks of the factorization: its recursion step by step, and what is said of them
---   CflIn       the factorization into anti-Lyndon words
+--   CflIn        the factorization into anti-Lyndon words
 --   Places       lists of words by their ends; demand 3
 --   Scan         what the loops of the cuts and of the test know
 --   Table        the Lyndon table
@@ -42,6 +42,7 @@ pub mod Lyndon
 pub mod Icfl
 pub mod Uniqueness
 pub mod Breaks
+pub mod CflIn
 pub mod Places
 pub mod Scan
 pub mod Table

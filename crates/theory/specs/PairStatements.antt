@@ -1,4 +1,4 @@
--- DEFINITIONS. What request 108 says of the pairs of a record; that it is true of separated_pairs is a theorem (stretches/RecordPairs, pairs-are).
+-- DEFINITIONS. What request 108 says of the pairs of a record; that it is true of separated_pairs is a theorem (proofs/Stretches/RecordPairs, pairs-are).
 use Rattle.std.specs.Prelude.{◌≡◌, ℕ, ◌+◌, ◌-◌, ◌≤◌, length}
 use mathlib.Core.List.{List, ◌∷◌, sum}
 use Rattle.std.proofs.Math.Seq.{slice}

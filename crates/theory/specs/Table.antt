@@ -1,3 +1,6 @@
--- The Lyndon table. More laws of them: proofs/Table.
---   Merging         definitions that contracts cite
+-- The Lyndon table. The rest of the laws: proofs/Table.
+--   LyndonTableCflIn, LyndonTableNext       its entries by the strict cut and by the next smaller suffix
+--   Merging         the table from right to left: neighbouring anti-Lyndon words make one
+pub mod LyndonTableCflIn
+pub mod LyndonTableNext
 pub mod Merging

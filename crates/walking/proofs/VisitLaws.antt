@@ -13,12 +13,12 @@ use Rattle.buffers.proofs.BufferLaws.{written_over}
 use Rattle.words.specs.Words.{most_letters}
 use Rattle.words.specs.Runs.{Triple, moved_run}
 use Rattle.theory.specs.RunStatements.{IsRun}
-use Rattle.theory.proofs.Repetitions.TwoOrders.{UpTo}
+use Rattle.theory.specs.Repetitions.TwoOrders.{UpTo}
 use Rattle.theory.specs.Repetitions.Found.{found_at, found_up_to}
-use Rattle.theory.proofs.Repetitions.Found.{found-next, found-more}
+use Rattle.theory.specs.Repetitions.Found.{found-next, found-more}
 use Rattle.theory.proofs.Repetitions.Serving.{found-serves}
 use Rattle.theory.specs.Repetitions.Insertion.{insert_run, sort_into}
-use Rattle.theory.proofs.Repetitions.Insertion.{sort-append, sort-one, sort-none, sort-length, sort-in-order}
+use Rattle.theory.specs.Repetitions.Insertion.{sort-append, sort-one, sort-none, sort-length, sort-in-order}
 use Rattle.inserting.specs.Entries.{entries_of_runs}
 use Rattle.inserting.specs.Inserting.{triples, InsertRoom}
 use Rattle.inserting.proofs.InsertLaws.{entries-length, triples-length, triples-written, entries-triples}

@@ -16,12 +16,13 @@ use Rattle.words.specs.Separated.{separator, Unmarked, stretches}
 use Rattle.words.specs.Runs.{Triple, runs_from, runs, moved_run, runs_over, separated_runs}
 use Rattle.theory.specs.RunStatements.{none}
 use Rattle.theory.specs.Stretches.Unmarked.{unmarked-empty, unmarked-letters}
-use Rattle.theory.proofs.Stretches.SeparatedRuns.{runs-alone, runs-split, separated-runs-few}
-use Rattle.theory.proofs.Repetitions.TwoOrders.{UpTo}
-use Rattle.theory.proofs.Repetitions.RunsAre.{runs-sound}
+use Rattle.theory.specs.Stretches.SeparatedRuns.{runs-alone, runs-split}
+use Rattle.theory.proofs.Stretches.SeparatedRuns.{separated-runs-few}
+use Rattle.theory.specs.Repetitions.TwoOrders.{UpTo}
+use Rattle.theory.specs.Repetitions.RunsAre.{runs-sound}
 use Rattle.theory.proofs.Repetitions.RunsFewer.{found-sorted, found-length}
 use Rattle.theory.specs.Repetitions.Insertion.{sort_into, InOrder}
-use Rattle.theory.proofs.Repetitions.Insertion.{sorted-behind, sorted-moved, sort-in-order}
+use Rattle.theory.specs.Repetitions.Insertion.{sorted-behind, sorted-moved, sort-in-order}
 use Rattle.common.specs.Orders.{most_byte}
 use Rattle.longest.specs.Longest.{LongestRoom, LongestFilled}
 use Rattle.walking.specs.Walking.{Listed, all_found, VisitRoom, Visited, UnmarkedTo, StretchEnds, WalkRoom, Walked}

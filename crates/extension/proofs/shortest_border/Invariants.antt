@@ -1,5 +1,5 @@
 -- The walk goes from border to shorter border as long as the next letter is below the letter at the end; along the borders the next letters do not fall.
-use Rattle.theory.proofs.Scan.ScannedBorders.{Walk}
+use Rattle.theory.specs.Scan.ScannedBorders.{Walk}
 use Rattle.extension.proofs.shortest_border.Given as goal
 
 abbrev pub invariant-loop-border : goal.invariant-loop-border

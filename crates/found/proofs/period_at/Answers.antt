@@ -1,6 +1,6 @@
 -- The definition's two cases.
 use mathlib.Core.Path.{sym, ◌∙◌}
-use Rattle.theory.proofs.Repetitions.Found.{period-same, period-other}
+use Rattle.theory.specs.Repetitions.Found.{period-same, period-other}
 use Rattle.common.specs.Orders.{most_byte}
 use Rattle.found.proofs.period_at.Goals as goal
 

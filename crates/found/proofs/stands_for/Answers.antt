@@ -1,5 +1,5 @@
 -- The test of the definition.
-use Rattle.theory.proofs.Repetitions.Found.{counts-test}
+use Rattle.theory.specs.Repetitions.Found.{counts-test}
 use Rattle.found.proofs.stands_for.Goals as goal
 
 pub returns : goal.returns

@@ -1,5 +1,5 @@
 -- Its three tests are those of the order.
-use Rattle.theory.proofs.Repetitions.Insertion.{earlier-test}
+use Rattle.theory.specs.Repetitions.Insertion.{earlier-test}
 use Rattle.inserting.specs.Inserting.{run_from}
 use Rattle.inserting.proofs.comes_later.Goals as goal
 

@@ -7,7 +7,8 @@ use mir.Val.{Fits}
 use Prim.Native.Nat.{ℕ, ◌+◌, ◌≤◌, ◌<◌}
 use lib.ListN.{length, get_or}
 use Rattle.theory.specs.Orders.Decisions.{decides-true, decides-false}
-use Rattle.theory.proofs.Repetitions.TwoOrders.{UpTo, longest-inside}
+use Rattle.theory.specs.Repetitions.TwoOrders.{UpTo}
+use Rattle.theory.proofs.Repetitions.TwoOrders.{longest-inside}
 use Rattle.common.specs.Orders.{most_byte}
 use Rattle.longest.proofs.LongestLaws.{length-in, length-other}
 use Rattle.longest.proofs.length_in.Goals as goal

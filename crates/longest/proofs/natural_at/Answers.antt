@@ -5,7 +5,8 @@ use mir.Syntax.{w8}
 use mir.Val.{Fits}
 use Prim.Native.Nat.{ℕ, ◌+◌, ◌≤◌}
 use lib.ListN.{length, get_or}
-use Rattle.theory.proofs.Repetitions.TwoOrders.{UpTo, longest-inside}
+use Rattle.theory.specs.Repetitions.TwoOrders.{UpTo}
+use Rattle.theory.proofs.Repetitions.TwoOrders.{longest-inside}
 use Rattle.common.specs.Orders.{most_byte}
 use Rattle.longest.proofs.LongestLaws.{next-alone, same-alone}
 use Rattle.longest.proofs.natural_at.Goals as goal

@@ -3,7 +3,7 @@ use mathlib.Core.List.{List}
 use Prim.Native.Nat.{ℕ, ◌+◌}
 use native.Mathlib.Omega.{arith}
 use Rattle.theory.specs.Orders.Decisions.{decides-true, decides-false}
-use Rattle.theory.proofs.Table.Merging.{merged-letter}
+use Rattle.theory.specs.Table.Merging.{merged-letter}
 use Rattle.merging.specs.Steps.{NextKnown}
 use Rattle.merging.proofs.MergeLaws.{Merging, turn-fits, turn_alone, turns-end, letter-joins, letter-stops}
 use Rattle.merging.proofs.longest_at.Goals as goal

@@ -1,5 +1,5 @@
 use mathlib.Core.Path.{sym}
-use Rattle.theory.proofs.Places.PairedLists.{ends-half}
+use Rattle.theory.specs.Places.PairedLists.{ends-half}
 use Rattle.pairs.proofs.count.Goals as goal
 
 pub returns : goal.returns

@@ -2,7 +2,7 @@ use mathlib.Core.Path.{sym}
 use Prim.Native.Nat.{◌+◌, ◌*◌, ◌<◌}
 use native.Mathlib.Omega.{arith}
 use lib.ListN.{length}
-use Rattle.theory.proofs.Places.PairedLists.{ends-half, ends_at}
+use Rattle.theory.specs.Places.PairedLists.{ends-half, ends_at}
 use Rattle.pairs.proofs.factor_end.Goals as goal
 
 pub overflow_mul-result : goal.overflow_mul-result

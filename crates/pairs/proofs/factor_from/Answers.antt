@@ -5,7 +5,7 @@ use Prim.Native.Nat.{ℕ, zero, suc, ◌+◌, ◌-◌, ◌*◌, ◌<◌}
 use native.Mathlib.Omega.{arith}
 use lib.ListN.{length, get_or}
 use Rattle.words.specs.Pairs.{ends_of}
-use Rattle.theory.proofs.Places.PairedLists.{ends-half, ends_at}
+use Rattle.theory.specs.Places.PairedLists.{ends-half, ends_at}
 use Rattle.pairs.specs.PairedList.{factor_begin}
 use Rattle.pairs.proofs.factor_from.Goals as goal
 

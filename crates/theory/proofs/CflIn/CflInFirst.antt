@@ -7,8 +7,9 @@ use Rattle.std.proofs.Math.Decide.{dec_lt}
 use Rattle.words.specs.Words.{◌≺◌}
 use Rattle.words.specs.Factorizations.{cfl_in, cfl_in_ends}
 use Rattle.theory.specs.Orders.InverseLaws.{◌≼◌, ≼_refl, ≺-≼, ≼-≺}
-use Rattle.theory.proofs.Places.FirstSuffixes.{FirstSuffix, Boundary, boundary-first, first-boundary, anti-led}
-use Rattle.theory.proofs.Places.Ends.{start-boundary, boundary_start}
+use Rattle.theory.specs.Places.FirstSuffixes.{FirstSuffix, Boundary, boundary-first, first-boundary}
+use Rattle.theory.proofs.Places.FirstSuffixes.{anti-led}
+use Rattle.theory.specs.Places.Ends.{start-boundary, boundary_start}
 use Rattle.theory.proofs.CflIn.CflInIs.{cfl-in-is}
 
 pub cfl-in-boundary-first : (w : List ℕ) (e : ℕ) → Boundary e (cfl_in w) → FirstSuffix e w

@@ -6,7 +6,8 @@ use Rattle.words.specs.Words.{AntiLyndon}
 use Rattle.words.specs.Factorizations.{longest_anti_lyndon, cfl_in, cfl_in_within}
 use Rattle.theory.specs.Statements.{EqualOrAfter, Next, end, by, none, more, CflInOf}
 use Rattle.theory.specs.Orders.InverseLaws.{◌≼◌}
-use Rattle.theory.proofs.Lyndon.AntiLyndonLaws.{not-append, ≼-equal-or-after, Longest, longest-is, longest-positive}
+use Rattle.theory.specs.Lyndon.AntiLyndonLaws.{not-append, Longest, longest-is, longest-positive}
+use Rattle.theory.proofs.Lyndon.AntiLyndonLaws.{≼-equal-or-after}
 
 -- l, and every anti-Lyndon prefix of v no later than l: so is the first word of the cut of v
 within-next : (k : ℕ) (v l : List ℕ) → ((n : ℕ) → 0 < n → n ≤ length v → AntiLyndon (take n v) → take n v ≼ l) → Next EqualOrAfter l (cfl_in_within k v)

@@ -1,17 +1,13 @@
 -- The bound of cfl_in_within does not matter: cfl_in is the longest anti-Lyndon prefix, then cfl_in of the rest.
-use Rattle.std.specs.Prelude.{◌≡◌, refl, List, [], ◌∷◌, ℕ, ◌≤◌, ◌<◌, length, take, drop}
+use Rattle.std.specs.Prelude.{◌≡◌, List, [], ◌∷◌, ℕ, ◌≤◌, ◌<◌, length, take, drop}
 use Rattle.std.proofs.Common.{arith, length-drop}
 use Rattle.words.specs.Factorizations.{longest_anti_lyndon, cfl_in, cfl_in_within}
-use Rattle.theory.proofs.Lyndon.AntiLyndonLaws.{longest-positive}
+use Rattle.theory.specs.Lyndon.AntiLyndonLaws.{longest-positive}
 use Rattle.theory.proofs.CflIn.CflInIs.{within-cfl-in}
 use Rattle.theory.proofs.CflIn.CflInUnique.{cfl-in-unique}
 
 pub within-cfl-in-enough : (k : ℕ) (w : List ℕ) → length w ≤ k → cfl_in_within k w ≡ cfl_in w
 within-cfl-in-enough k w l = cfl-in-unique w (cfl_in_within k w) (within-cfl-in k w l)
-
-pub cfl-in-empty : cfl_in [] ≡ []
-unfolding cfl_in
-cfl-in-empty = refl
 
 pub cfl-in-step : (w : List ℕ) → 0 < length w → cfl_in w ≡ take (longest_anti_lyndon w) w ∷ cfl_in (drop (longest_anti_lyndon w) w)
 unfolding cfl_in cfl_in_within

@@ -10,8 +10,9 @@ use Rattle.theory.specs.Orders.PrefixLaws.{take-⊑, ⊑-drop}
 use Rattle.theory.specs.Orders.MismatchLaws.{≪-extend}
 use Rattle.theory.specs.Orders.InverseLaws.{≼-not-≪}
 use Rattle.theory.specs.Lyndon.WordTests.{suffix-loses}
-use Rattle.theory.proofs.Lyndon.AntiLyndonLaws.{longest-unique}
-use Rattle.theory.proofs.Places.FirstSuffixes.{FirstSuffix, start, later, boundary-first, anti-led}
+use Rattle.theory.specs.Lyndon.AntiLyndonLaws.{longest-unique}
+use Rattle.theory.specs.Places.FirstSuffixes.{FirstSuffix, start, later, boundary-first}
+use Rattle.theory.proofs.Places.FirstSuffixes.{anti-led}
 
 pub first-longest : (l : List ℕ) (ls : List (List ℕ)) → Linked AntiLyndon EqualOrAfter (l ∷ ls) → longest_anti_lyndon (l ++ flatten ls) ≡ length l
 unfolding flatten

@@ -1,82 +1,25 @@
 -- The judge of a list of ends, as a function that computes: 0, or how many letters tell that these are not the ends of the record (judged_from), and what its answer
 -- says of a part (part-judged) and of two neighbours (pair-judged). Part by part: does it fall; then, beside the next one: their first difference, then the border.
 -- Of all parts: Verdicts.
-use Rattle.std.specs.Prelude.{◌≡◌, refl, ◌⊎◌, Bool, true, false, length, get_or, leb, ltb}
+use Rattle.std.specs.Prelude.{refl, ◌⊎◌, Bool, true, false, length, get_or, leb, ltb}
 use Rattle.std.proofs.Common.{ap, inl, inr, arith}
-use mathlib.Core.List.{List, [], ◌∷◌}
-use Prim.Native.Nat.{ℕ, zero, suc, ◌+◌, ◌-◌, ◌≤◌, ◌<◌}
+use mathlib.Core.List.{List}
+use Prim.Native.Nat.{ℕ, zero, suc, ◌+◌, ◌≤◌, ◌<◌}
 use Rattle.std.proofs.Math.Seq.{slice, length-slice}
 use Rattle.words.specs.Words.{◌≪◌, ◌⊑◌, InverseLyndon, common_length_of}
 use Rattle.theory.specs.Orders.CommonLength.{common-agree, common-sym}
-use Rattle.words.specs.Factorizations.{failing_length, cfl_in}
+use Rattle.words.specs.Factorizations.{cfl_in}
 use Rattle.theory.specs.Statements.{BelowByBorders}
 use Rattle.theory.specs.Orders.PrefixLaws.{⊑-whole}
 use Rattle.theory.specs.Orders.Decisions.{Decides, holds, fails, leb-test}
-use Rattle.theory.specs.Lyndon.WordTests.{inverse-lyndon-test}
-use Rattle.theory.specs.Icfl.Failing.{failing-is}
-use Rattle.theory.specs.Judging.LastFactor.{last_word}
-use Rattle.theory.proofs.Judging.LastFactor.{common-differs, mismatch-common, last-factor, last-prefix, border-criterion}
-use Rattle.theory.proofs.Judging.Faults.{PartFault, rises, PairFault, shares, exceeds, begins, slice-take}
-use Rattle.theory.specs.Judging.Judge.{or_else, judged_part, judged_by, judged_pair, judged_turn}
-
--- the first of the ends, or j
-abbrev pub first_or : ℕ → List ℕ → ℕ
-first_or j [] = j
-first_or j (k ∷ es) = k
-
--- all parts from i on
-unfoldable pub judged_from : List ℕ → ℕ → List ℕ → ℕ
-unfolding judged_turn
-judged_from w i [] = 0
-judged_from w i (j ∷ es) =
-    let later : ℕ = judged_from w j es in
-    or_else (judged_turn w i j (first_or j es)) later
-
--- ---- what each step says
-
-pub data Judged (F : ℕ → Type 0) (P : Type 0) : ℕ → Type 0 where
-  sound : P → Judged F P 0
-  faulty : {q : ℕ} → F (suc q) → Judged F P (suc q)
-
-pub judged-or : {F : ℕ → Type 0} {P Q : Type 0} {a b : ℕ} → Judged F P a → (P → Judged F Q b) → Judged F (P × Q) (or_else a b)
-judged-or {F} {P} {Q} (sound p) f = go (f p)
-  where
-    go : {b : ℕ} → Judged F Q b → Judged F (P × Q) b
-    go (sound q) = sound (p, q)
-    go (faulty x) = faulty x
-judged-or (faulty x) f = faulty x
-
-pub judged-map : {F G : ℕ → Type 0} {P Q : Type 0} {a : ℕ} → (P → Q) → ((q : ℕ) → F q → G q) → Judged F P a → Judged G Q a
-judged-map f g (sound p) = sound (f p)
-judged-map f g (faulty {q = q} x) = faulty (g (suc q) x)
-
-pub or-none : (a : ℕ) → or_else a 0 ≡ a
-or-none zero = refl
-or-none (suc a) = refl
+use Rattle.theory.specs.Judging.LastFactor.{common-differs, mismatch-common, last_word}
+use Rattle.theory.proofs.Judging.LastFactor.{last-factor, last-prefix, border-criterion}
+use Rattle.theory.specs.Judging.Faults.{PairFault, shares, exceeds, begins}
+use Rattle.theory.specs.Judging.Judge.{Judged, faulty, judged_by, judged_pair, sound}
 
 fault : {F : ℕ → Type 0} {P : Type 0} (q : ℕ) → 0 < q → F q → Judged F P q
 fault zero l x = absurd (omega arith)
 fault (suc q) l x = faulty x
-
--- ---- a part
-
-module _ (w : List ℕ) (i j : ℕ) (ij : i < j) (jn : j ≤ length w) where
-  pub part-judged : Judged (PartFault w i j) (InverseLyndon (slice i j w)) (judged_part w i j)
-  unfolding judged_part
-  part-judged = go (inverse-lyndon-test (slice i j w))
-    where
-      m : List ℕ
-      m = slice i j w
-
-      go : {t : Bool} → Decides (InverseLyndon m) t → Judged (PartFault w i j) (InverseLyndon m) (elim t [ true ↦ 0 | false ↦ i + failing_length m ])
-      go (holds k) = sound k
-      go (fails n) =
-          let size : length m ≡ j - i = length-slice i j w jn in
-          let f = failing-is m (omega arith) n in
-          let x : ℕ = i + failing_length m - 1 in
-          let last : i + failing_length m ≡ suc x = omega (arith, f.positive) in
-          let bad-prefix : ¬ InverseLyndon (slice i (i + failing_length m) w) = rw (slice-take i j (failing_length m) w (omega (arith, f.inside)) jn) at f.fails in
-          rw last (faulty (rises x (omega (arith, f.positive)) (omega (arith, f.positive, f.inside)) (rw last at bad-prefix)))
 
 -- ---- two neighbours
 

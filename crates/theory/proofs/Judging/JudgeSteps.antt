@@ -3,46 +3,22 @@
 --   scanned-border, last-border, last_none   the last factor by scans: of the word, of its longest border, and so on
 --   ours-judged, judged-ours                 a judgement of 0
 use Rattle.std.proofs.Math.Path.{◌≡◌, refl, ap}
-use Rattle.std.proofs.Common.{sym, ◌∙◌, arith, le_refl, length-drop, take-take, take_all, take-add, length-take-le, drop_at}
-use Rattle.std.specs.Prelude.{List, Bool, ℕ, ◌+◌, ◌-◌, ◌≤◌, ◌<◌, length, take, drop}
-use Rattle.std.proofs.Math.Bool.{true, false}
+use Rattle.std.proofs.Common.{sym, ◌∙◌, arith, le_refl, length-drop, take-take, take_all, length-take-le}
+use Rattle.std.specs.Prelude.{List, ℕ, ◌-◌, ◌≤◌, ◌<◌, length, take, drop}
 use Rattle.std.proofs.Math.Decide.{dec_lt}
-use Rattle.std.proofs.Math.Seq.{slice, take-length, drop-length}
-use Rattle.words.specs.Words.{InverseLyndon}
-use Rattle.words.specs.Factorizations.{failing_length, longest_anti_lyndon, cfl_in}
-use Rattle.theory.specs.Orders.Decisions.{Decides, holds, fails}
-use Rattle.theory.specs.Lyndon.WordTests.{inverse-lyndon-test}
-use Rattle.theory.specs.Icfl.Failing.{Failing, failing-unique, failing-not}
-use Rattle.theory.proofs.CflIn.CflInUnfold.{cfl-in-empty, cfl-in-step}
+use Rattle.std.proofs.Math.Seq.{take-length, drop-length}
+use Rattle.words.specs.Factorizations.{longest_anti_lyndon, cfl_in}
+use Rattle.theory.specs.CflIn.CflInUnfold.{cfl-in-empty}
+use Rattle.theory.proofs.CflIn.CflInUnfold.{cfl-in-step}
 use Rattle.theory.specs.EndsStatements.{Verdict, ours, other}
 use Rattle.theory.specs.Places.EndsRise.{Rises}
-use Rattle.theory.specs.Scan.Scanned.{Scanned, Stops}
-use Rattle.theory.proofs.Scan.Scanned.{scanned-longest, scanned-failing, scanned-after, border-front}
+use Rattle.theory.specs.Scan.Scanned.{Scanned, scanned-longest}
 use Rattle.words.specs.Separated.{separated_icfl_ends, UpToSeparator}
-use Rattle.theory.proofs.Stretches.Factors.{separated-icfl-ends-rise}
+use Rattle.theory.specs.Stretches.Factors.{separated-icfl-ends-rise}
 use Rattle.theory.specs.Judging.LastFactor.{last_word}
-use Rattle.theory.specs.Judging.Judge.{judged_part}
-use Rattle.theory.proofs.Judging.Judge.{judged_from}
+use Rattle.theory.specs.Judging.Judge.{judged_from}
 use Rattle.theory.proofs.Judging.Verdicts.{judge-is}
-
--- ---- parts
-
-module _ (w : List ℕ) (i j : ℕ) where
-  pub judge-part-whole : InverseLyndon (slice i j w) → judged_part w i j ≡ 0
-  unfolding judged_part
-  judge-part-whole k = go (inverse-lyndon-test (slice i j w))
-    where
-      go : {t : Bool} → Decides (InverseLyndon (slice i j w)) t → ◌≡◌ {A = ℕ} (elim t [ true ↦ 0 | false ↦ i + failing_length (slice i j w) ]) 0
-      go (holds h) = refl
-      go (fails h) = absurd (h k)
-
-  pub judge-part-failing : (l : ℕ) → Failing (slice i j w) l → judged_part w i j ≡ i + l
-  unfolding judged_part
-  judge-part-failing l f = go (inverse-lyndon-test (slice i j w))
-    where
-      go : {t : Bool} → Decides (InverseLyndon (slice i j w)) t → ◌≡◌ {A = ℕ} (elim t [ true ↦ 0 | false ↦ i + failing_length (slice i j w) ]) (i + l)
-      go (holds h) = absurd (failing-not f h)
-      go (fails h) = ap (λ (n : ℕ). i + n) (failing-unique (slice i j w) l f)
+use Rattle.theory.specs.Judging.JudgeSteps.{border-is}
 
 -- ---- the last factor
 
@@ -65,29 +41,6 @@ scanned-within {w} {n} {b} k l s =
     inside_both (yes h) = rw (take_all k w (omega arith)) s.inside
     inside_both (no h) = rw (length-take-le k w (omega arith)) l
 
-pub scanned-from : {w : List ℕ} {n b : ℕ} (k : ℕ) → n ≤ k → k ≤ length w → Scanned (take k w) n b → Scanned w n b
-scanned-from {w} {n} {b} k l h s =
-    let z : take n (take k w) ≡ take n w = take-take n k w l in
-    record { shorter = s.shorter; inside = omega arith; word = rw z at s.word; period = rw z at s.period }
-
--- the border of n letters, at their front
-border-is : {w : List ℕ} {n b : ℕ} → Scanned w n b → drop (n - b) (take n w) ≡ take b w
-border-is {w} {n} {b} s = border-front w n b s.inside (omega (arith, s.shorter)) s.period.repeats
-
--- a border that is no shorter than the period is scanned already
-pub scanned-border : {w : List ℕ} {n b : ℕ} → Scanned w n b → (p : ℕ) → p ≡ n - b → p ≤ b → Scanned w b (b - p)
-scanned-border {w} {n} {b} s p e l =
-    let a = scanned-after s p e l in
-    let z : p + b ≡ n = omega (arith, s.shorter) in
-    let shifted : take b (drop p w) ≡ take b w = sym (drop_at (take p w) (take b (drop p w)) p (length-take-le p w (omega (arith, s.inside))))
-    ∙ ap (drop p) (sym (take-add p b w) ∙ ap (λ (m : ℕ). take m w) z) ∙ (rw (← e) at (border-is s)) in
-    record {
-      shorter = a.shorter;
-      inside = omega (arith, s.shorter, s.inside);
-      word = rw shifted at a.word;
-      period = rw shifted at a.period;
-    }
-
 pub last-border : {w : List ℕ} {n b : ℕ} → Scanned w n b → 0 < b → last_word (cfl_in (take n w)) ≡ last_word (cfl_in (take b w))
 last-border {w} {n} {b} s p =
     let m : List ℕ = take n w in
@@ -100,14 +53,6 @@ last_none {w} {n} s =
     let size : length (take n w) ≡ n = length-take-le n w s.inside in
     let longest : longest_anti_lyndon (take n w) ≡ n - 0 = scanned-longest (scanned-within n (le_refl n) s) (λ l. absurd (omega arith)) in
     last-whole (take n w) (omega (arith, s.shorter)) (longest ∙ omega arith)
-
--- a scan of an inverse Lyndon word reads all letters
-pub scanned-all : {w : List ℕ} {n b : ℕ} → Scanned w n b → Stops w n b → InverseLyndon w → n ≡ length w
-scanned-all {w} {n} {b} s h k = go (dec_lt n (length w))
-  where
-    go : Dec (n < length w) → n ≡ length w
-    go (yes l) = absurd (failing-not (scanned-failing s l (h l)) k)
-    go (no l) = omega (arith, s.inside)
 
 -- ---- what a judgement of 0 says
 

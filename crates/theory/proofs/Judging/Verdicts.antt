@@ -1,52 +1,28 @@
 -- THEOREM judge-is. What the judge answers is a Verdict on the list. Of a part only the first letter is asked whether it is a mark, and beside the next one only the
 -- left part: all else that marks do shows as a letter that is larger.
-use Rattle.std.specs.Prelude.{◌≡◌, ◌⊎◌, Bool, length, drop, get_or, leb}
+use Rattle.std.specs.Prelude.{◌≡◌, ◌⊎◌, Bool, length, get_or, leb}
 use Rattle.std.proofs.Common.{ap, sym, ◌∙◌, inr, arith, le_refl}
 use Rattle.std.proofs.Math.Logic.{inl}
 use mathlib.Core.List.{List, [], ◌∷◌}
 use Rattle.std.proofs.Math.Bool.{true, false}
 use Prim.Native.Nat.{ℕ, suc, ◌-◌, ◌≤◌, ◌<◌}
-use Rattle.std.proofs.Math.Seq.{slice, slice-cons, slice_empty}
-use Rattle.words.specs.Words.{◌≪◌, InverseLyndon}
+use Rattle.std.proofs.Math.Seq.{slice, slice_empty}
+use Rattle.words.specs.Words.{InverseLyndon}
 use Rattle.theory.specs.Orders.CommonLength.{common-agree}
 use Rattle.theory.specs.Statements.{BelowByBorders, Adjacent, here, there, Part, end, by, Linked, none, more}
-use Rattle.theory.specs.Orders.LexLaws.{◌≤ₗ◌, ≤ₗ-not-≪}
 use Rattle.theory.specs.Orders.Decisions.{Decides, holds, fails, leb-test, eqb-test}
-use Rattle.theory.specs.Lyndon.WordTests.{suffix-below}
 use Rattle.theory.specs.EndsStatements.{Verdict, ours, other}
 use Rattle.theory.specs.Places.EndsRise.{Rises}
-use Rattle.words.specs.Separated.{separator, Unmarked, UpToSeparator}
+use Rattle.words.specs.Separated.{separator, UpToSeparator}
 use Rattle.theory.specs.SeparatedStatements.{MarkOr, UnlessMark}
-use Rattle.theory.specs.Stretches.Unmarked.{unmarked-empty, unmarked-cons}
-use Rattle.theory.proofs.Stretches.Factors.{inverse-lyndon-factor}
-use Rattle.theory.proofs.Judging.EndsUnique.{parts_from, ours-linked}
+use Rattle.theory.specs.Stretches.Factors.{inverse-lyndon-factor}
+use Rattle.theory.specs.Judging.EndsUnique.{parts_from, ours-linked}
 use Rattle.theory.proofs.Judging.LastFactor.{last-factor, last-anti-lyndon}
-use Rattle.theory.proofs.Judging.Faults.{PairFault, shares, exceeds, begins, marks, Fault, fault-tells, rises-part}
-use Rattle.theory.specs.Judging.Judge.{or_else, judged_part, judged_pair, judged_turn}
-use Rattle.theory.proofs.Judging.Judge.{judged_from, Judged, sound, faulty, judged-or, judged-map, or-none, part-judged, pair-judged}
-
--- ---- marks
-
--- only the first letter of an inverse Lyndon part is asked whether it is a mark
-suffixes-unmarked : (a : ℕ) (x v : List ℕ) → a < separator → ((i : ℕ) → drop i v ≤ₗ (a ∷ x)) → Unmarked v
-suffixes-unmarked a x [] l f = unmarked-empty
-suffixes-unmarked a x (b ∷ v) l f = unmarked-cons (λ e. ≤ₗ-not-≪ (f 0) (◌≪◌.here {a = a} {b = b} (omega arith))) (suffixes-unmarked a x v l (λ i. f (suc i)))
-
-pub unmarked-first : (a : ℕ) (v : List ℕ) → InverseLyndon (a ∷ v) → a < separator → Unmarked (a ∷ v)
-unmarked-first a v k l = suffixes-unmarked a v (a ∷ v) l (suffix-below k)
-
-module _ (w : List ℕ) (i j : ℕ) (ij : i < j) (jn : j ≤ length w) where
-  split : slice i j w ≡ get_or w i 0 ∷ slice (suc i) j w
-  split = slice-cons i j w 0 ij jn
-
-  head : get_or (slice i j w) 0 0 ≡ get_or w i 0
-  head = ap (λ (t : List ℕ). get_or t 0 0) split
-
-  no-mark : ¬ (get_or w i 0 ≡ separator) → ¬ (slice i j w ≡ separator ∷ [])
-  no-mark n z = n (sym head ∙ ap (λ (t : List ℕ). get_or t 0 0) z)
-
-  part-kind : get_or w i 0 ≤ separator → ¬ (get_or w i 0 ≡ separator) → InverseLyndon (slice i j w) → Unmarked (slice i j w)
-  part-kind u n k = rw split (unmarked-first (get_or w i 0) (slice (suc i) j w) (rw split at k) (omega arith))
+use Rattle.theory.specs.Judging.Faults.{PairFault, shares, exceeds, begins, marks, Fault, rises-part}
+use Rattle.theory.proofs.Judging.Faults.{fault-tells}
+use Rattle.theory.specs.Judging.Judge.{or_else, judged_part, judged_pair, judged_turn, judged_from, Judged, sound, faulty, judged-or, judged-map, or-none, part-judged}
+use Rattle.theory.proofs.Judging.Judge.{pair-judged}
+use Rattle.theory.specs.Judging.Verdicts.{head, no-mark, part-kind, split}
 
 -- a fault beside the next part: that one is no mark
 next-no-mark : (w : List ℕ) (i j k : ℕ) → i < j → j < k → k ≤ length w → InverseLyndon (slice i j w) → get_or w i 0 ≤ separator → ¬ (get_or w i 0 ≡ separator)

@@ -17,11 +17,12 @@ use Rattle.theory.specs.Orders.InverseLaws.{◌≼◌, ≼-not-≪, ≼-antisym}
 use Rattle.theory.specs.Lyndon.WordTests.{suffix-below}
 use Rattle.theory.specs.Lyndon.Suffixes.{dominated-at}
 use Rattle.theory.proofs.Lyndon.AntiLyndonLaws.{equal-or-after-≼}
-use Rattle.theory.proofs.Places.FirstSuffixes.{FirstSuffix, Boundary, boundary-first, boundary-inside, dominated-led}
-use Rattle.theory.proofs.Places.Ends.{start-boundary, ends-boundary, boundary-ends, adjacent-left, adjacent-right}
-use Rattle.theory.proofs.Places.EndsRise.{icfl-ends-rise, cfl-in-ends-rise}
-use Rattle.theory.proofs.Places.Parts.{rises-above, rises-adjacent, part-word, parts-linked}
-use Rattle.theory.proofs.Places.Ranges.{range-suffix, compatible}
+use Rattle.theory.specs.Places.FirstSuffixes.{FirstSuffix, Boundary, boundary-first, boundary-inside, dominated-led}
+use Rattle.theory.specs.Places.Ends.{start-boundary, ends-boundary, boundary-ends, adjacent-left, adjacent-right}
+use Rattle.theory.specs.Places.EndsRise.{icfl-ends-rise}
+use Rattle.theory.proofs.Places.EndsRise.{cfl-in-ends-rise}
+use Rattle.theory.specs.Places.Parts.{rises-above, rises-adjacent, part-word, parts-linked}
+use Rattle.theory.specs.Places.Ranges.{range-suffix, compatible}
 use Rattle.theory.specs.Icfl.IcflConcat.{icfl-concat}
 use Rattle.theory.specs.Icfl.IcflDominated.{icfl-dominated}
 use Rattle.theory.proofs.CflIn.CflInIs.{cfl-in-is}

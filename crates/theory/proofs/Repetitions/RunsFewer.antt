@@ -11,11 +11,11 @@ use Rattle.words.specs.Runs.{Triple, runs}
 use Rattle.theory.specs.RunStatements.{IsRun, Rising, none, more}
 use Rattle.theory.specs.Repetitions.RisingLaws.{rising-append}
 use Rattle.theory.proofs.Repetitions.RunsAre.{runs-apart-keys, runs-unique}
-use Rattle.theory.proofs.Repetitions.TwoOrders.{UpTo}
-use Rattle.theory.specs.Repetitions.Found.{found_period, found_at, found_up_to}
-use Rattle.theory.proofs.Repetitions.Found.{FoundWith, found-with, found-few}
-use Rattle.theory.proofs.Repetitions.Serving.{Serves, served, serves-one, serves-inside, serves-found, found-serves}
-use Rattle.theory.proofs.Repetitions.Insertion.{Apart, sorted, sorted-rising, sorted-member, member-sorted, sorted-length}
+use Rattle.theory.specs.Repetitions.TwoOrders.{UpTo}
+use Rattle.theory.specs.Repetitions.Found.{FoundWith, found-with, found_period, found_at, found_up_to, found-few}
+use Rattle.theory.specs.Repetitions.Serving.{Serves}
+use Rattle.theory.proofs.Repetitions.Serving.{served, serves-one, serves-inside, serves-found, found-serves}
+use Rattle.theory.specs.Repetitions.Insertion.{Apart, sorted, sorted-rising, sorted-member, member-sorted, sorted-length}
 
 module _ (m : ℕ) (w : List ℕ) (b : UpTo m w) where
   -- the place that serves a run which was found

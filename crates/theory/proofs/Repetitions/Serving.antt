@@ -10,20 +10,16 @@ use Rattle.std.proofs.Math.Decide.{dec_lt, ℕ_discrete}
 use Rattle.theory.specs.Orders.CommonLength.{agree-unique}
 use Rattle.words.specs.Runs.{Triple, repeats_to}
 use Rattle.theory.specs.RunStatements.{Repeats, Run, IsRun}
-use Rattle.theory.proofs.Repetitions.RepeatsTo.{repeats-part, repeats-to, repeats-to-from, repeats-to-inside, repeats-to-most}
-use Rattle.theory.proofs.Repetitions.RunsMap.{repeats-to-map, run-map}
-use Rattle.theory.specs.Repetitions.RunSuffixes.{entry_at}
-use Rattle.theory.proofs.Repetitions.RunSuffixes.{same-letter, repeats-at, EndsUp, run-breaks, run-begins, run_agree, root-entry, entry-ends-up, one-root, entry-smallest}
-use Rattle.theory.proofs.Repetitions.Roots.{root}
-use Rattle.theory.specs.Repetitions.TwoOrders.{reversed, longer_entry}
-use Rattle.theory.proofs.Repetitions.TwoOrders.{UpTo, reversed-length, reversed-at, reversed-apart, entry-last, LongestIs, falls, rises, letter, longest-is-of, longest-inside}
-use Rattle.theory.specs.Repetitions.Found.{left_of, candidate_run, found_with, found_period, found_at}
-use Rattle.theory.proofs.Repetitions.Found.{AgreesLeft, agree-left-is, agree-left-unique, Candidate, FoundWith, one, none, found-with, found-one, period-same, period-other}
-
-pub data Serves (m : ℕ) (w : List ℕ) (r : Triple) (i : ℕ) : Type 0 where
-  by-letter : r.2 ≡ 1 → i ≡ r.0 + 1 → Serves m w r i
-  by-inverse : 1 < r.2 → r.0 < i → i ≤ r.0 + r.2 → entry_at w i ≡ r.2 → Serves m w r i
-  by-natural : 1 < r.2 → r.0 < i → i ≤ r.0 + r.2 → entry_at (reversed m w) i ≡ r.2 → r.1 < length w → Serves m w r i
+use Rattle.theory.specs.Repetitions.RepeatsTo.{repeats-part, repeats-to, repeats-to-from, repeats-to-inside, repeats-to-most}
+use Rattle.theory.specs.Repetitions.RunsMap.{repeats-to-map}
+use Rattle.theory.proofs.Repetitions.RunsMap.{run-map}
+use Rattle.theory.specs.Repetitions.RunSuffixes.{entry_at, same-letter, repeats-at, EndsUp}
+use Rattle.theory.proofs.Repetitions.RunSuffixes.{run-breaks, run-begins, run_agree, root-entry, entry-ends-up, one-root, entry-smallest}
+use Rattle.theory.specs.Repetitions.Roots.{root}
+use Rattle.theory.specs.Repetitions.TwoOrders.{UpTo, reversed, reversed-length, reversed-at, reversed-apart, longer_entry}
+use Rattle.theory.proofs.Repetitions.TwoOrders.{entry-last, LongestIs, falls, rises, letter, longest-is-of, longest-inside}
+use Rattle.theory.specs.Repetitions.Found.{AgreesLeft, agree-left-is, agree-left-unique, left_of, Candidate, candidate_run, found_with, FoundWith, one, none, found-with, found-one, found_period, period-same, period-other, found_at}
+use Rattle.theory.specs.Repetitions.Serving.{Serves, by-inverse, by-letter, by-natural}
 
 -- ---- how far a run goes from a place
 

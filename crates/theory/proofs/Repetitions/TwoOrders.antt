@@ -4,23 +4,14 @@
 use Rattle.std.specs.Prelude.{◌≡◌, ◌⊎◌, List, ◌∷◌, ℕ, zero, suc, ◌+◌, ◌-◌, ◌≤◌, ◌<◌, length, drop, get_or}
 use Rattle.std.proofs.Common.{ap, sym, subst, ◌∙◌, inl, inr, arith, length-drop, drop_of_length-le, drop-cons, get_or-drop}
 use Rattle.std.proofs.Math.Decide.{dec_lt}
-use Rattle.std.proofs.lemmas.List.{length-map}
 use Rattle.words.specs.Words.{◌≪◌, here, there, done, proper, ◌≺◌, prefix, mismatch}
 use Rattle.theory.specs.Orders.MismatchLaws.{≪-left-nonempty}
 use Rattle.theory.specs.Orders.InverseLaws.{≺-cons}
 use Rattle.theory.specs.Lyndon.WordTests.{suffix-loses}
 use Rattle.theory.proofs.Table.LyndonTableNext.{lyndon-table-next}
-use Rattle.theory.specs.Repetitions.RunSuffixes.{entry_at}
-use Rattle.theory.proofs.Repetitions.RunSuffixes.{window, window-length, window-at, same-letter, entry-anti-lyndon, entry-inside, entry-positive}
-use Rattle.theory.proofs.Repetitions.RunsMap.{get_d_map, KeepsApart}
-use Rattle.theory.specs.Repetitions.TwoOrders.{reversed, longer_entry}
-
--- ---- one order: an entry above 1
-
--- the next letter is smaller, or the same with an entry above 1
-pub data Falls (v : List ℕ) (i : ℕ) : Type 0 where
-  smaller : get_or v (i + 1) 0 < get_or v i 0 → Falls v i
-  goes_on : get_or v (i + 1) 0 ≡ get_or v i 0 → 1 < entry_at v (i + 1) → Falls v i
+use Rattle.theory.specs.Repetitions.RunSuffixes.{entry_at, window, window-length, window-at, same-letter, entry-anti-lyndon}
+use Rattle.theory.proofs.Repetitions.RunSuffixes.{entry-inside, entry-positive}
+use Rattle.theory.specs.Repetitions.TwoOrders.{Falls, UpTo, goes_on, longer_entry, reversed, reversed-at, reversed-length, smaller}
 
 suffix-cons : (v : List ℕ) (i : ℕ) → i < length v → drop i v ≡ get_or v i 0 ∷ drop (i + 1) v
 suffix-cons v i l = drop-cons v i 0 l ∙ ap (λ (k : ℕ). get_or v i 0 ∷ drop k v) (let z : suc i ≡ i + 1 = omega arith in z)
@@ -89,21 +80,6 @@ entry-last v i l h =
 
     size : length u ≡ p
     size = window-length v i p (entry-inside v i l)
-
--- ---- both orders
-
--- no letter is above m
-abbrev pub UpTo : ℕ → List ℕ → Type 0
-UpTo m w = (i : ℕ) → get_or w i 0 ≤ m
-
-pub reversed-length : (m : ℕ) (w : List ℕ) → length (reversed m w) ≡ length w
-reversed-length m w = length-map w (λ a. m - a)
-
-pub reversed-at : (m : ℕ) (w : List ℕ) (t : ℕ) → t < length w → get_or (reversed m w) t 0 ≡ m - get_or w t 0
-reversed-at m w t l = get_d_map (λ a. m - a) w t l
-
-pub reversed-apart : (m : ℕ) (w : List ℕ) → UpTo m w → KeepsApart (λ a. m - a) w
-reversed-apart m w b i j k l z = omega (arith, b i, b j)
 
 module _ (m : ℕ) (w : List ℕ) (b : UpTo m w) where
   inside-reversed : (i : ℕ) → i < length w → i < length (reversed m w)

@@ -9,29 +9,19 @@ use Rattle.theory.specs.Statements.{Adjacent, Part}
 use Rattle.words.specs.Separated.{mark, separated_icfl, separated_cfl_in, separated_icfl_ends, separated_cfl_in_ends}
 use Rattle.words.specs.Pairs.{ends_inside, pairs_from, separated_pairs, ends_of, counts_of}
 use Rattle.theory.specs.PairStatements.{Pair, PairsOf}
-use Rattle.theory.proofs.Places.FirstSuffixes.{Boundary}
-use Rattle.theory.proofs.Places.Ends.{start-boundary, adjacent-left, adjacent-right}
-use Rattle.theory.specs.Places.EndsRise.{Rises}
-use Rattle.theory.proofs.Places.EndsRise.{rises-most}
-use Rattle.theory.proofs.Places.Parts.{rises-adjacent}
-use Rattle.theory.proofs.Places.PairedLists.{Paired, done, more, pair-cases, pair-none, pair-bounds}
-use Rattle.theory.proofs.Stretches.Separation.{separation}
-use Rattle.theory.proofs.Stretches.Factors.{separated-icfl-ends-rise, separated-cfl-in-ends-rise}
-use Rattle.theory.proofs.Stretches.CflInSteps.{separated-cfl-in-empty, separated-cfl-in-separator}
+use Rattle.theory.specs.Places.FirstSuffixes.{Boundary}
+use Rattle.theory.specs.Places.Ends.{start-boundary, adjacent-left, adjacent-right}
+use Rattle.theory.specs.Places.EndsRise.{Rises, rises-most}
+use Rattle.theory.specs.Places.Parts.{rises-adjacent}
+use Rattle.theory.specs.Places.PairedLists.{Paired, done, more, pair-cases, pair-none, pair-bounds}
+use Rattle.theory.specs.Stretches.Separation.{separation}
+use Rattle.theory.specs.Stretches.Factors.{separated-icfl-ends-rise}
+use Rattle.theory.proofs.Stretches.Factors.{separated-cfl-in-ends-rise}
+use Rattle.theory.specs.Stretches.CflInSteps.{separated-cfl-in-empty, separated-cfl-in-separator}
 use Rattle.theory.proofs.Stretches.SeparatedDemand3.{pieces-strict, boundary-strict}
-use Rattle.theory.proofs.Stretches.StrictInside.{inside-split, inside-none, inside-some, inside-all, inside-few, strict-inside, ends-number}
-
--- ---- of any ends es and strict ends ss
-
-pub pairs-ends-from : (i : ℕ) (es ss : List ℕ) → ends_of (pairs_from i es ss) ≡ es
-unfolding pairs_from ends_of
-pairs-ends-from i [] ss = refl
-pairs-ends-from i (e ∷ es) ss = ap (λ (t : List ℕ). e ∷ t) (pairs-ends-from e es ss)
-
-pub pairs-number : (i : ℕ) (es ss : List ℕ) → length (pairs_from i es ss) ≡ 2 * length es
-unfolding pairs_from
-pairs-number i [] ss = refl
-pairs-number i (e ∷ es) ss = omega (arith, pairs-number e es ss)
+use Rattle.theory.specs.Stretches.StrictInside.{inside-split, inside-none, inside-some, inside-all, inside-few, ends-number}
+use Rattle.theory.proofs.Stretches.StrictInside.{strict-inside}
+use Rattle.theory.specs.Stretches.RecordPairs.{pairs-ends-from, pairs-number}
 
 pairs-sum-from : {n b : ℕ} {es : List ℕ} → Rises n b es → (ss : List ℕ) → sum ◌+◌ 0 (counts_of (pairs_from b es ss)) ≡ ends_inside b n ss
 unfolding pairs_from counts_of sum

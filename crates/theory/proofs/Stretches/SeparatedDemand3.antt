@@ -16,17 +16,18 @@ use Rattle.theory.specs.Lyndon.Suffixes.{dominated-at}
 use Rattle.theory.specs.Icfl.IcflConcat.{icfl-concat}
 use Rattle.theory.proofs.CflIn.CflInIs.{cfl-in-is}
 use Rattle.theory.proofs.CflIn.CflInFirst.{first-cfl-in-boundary}
-use Rattle.theory.proofs.Places.FirstSuffixes.{Leads, Boundary, boundary-inside, range-before}
-use Rattle.theory.proofs.Places.Ends.{ends-boundary, boundary-ends}
-use Rattle.theory.proofs.Places.Parts.{rises-above, rises-adjacent, part-word, parts-linked}
-use Rattle.theory.proofs.Places.Ranges.{range-suffix, compatible-led}
+use Rattle.theory.specs.Places.FirstSuffixes.{Leads, Boundary, boundary-inside, range-before}
+use Rattle.theory.specs.Places.Ends.{ends-boundary, boundary-ends}
+use Rattle.theory.specs.Places.Parts.{rises-above, rises-adjacent, part-word, parts-linked}
+use Rattle.theory.specs.Places.Ranges.{range-suffix, compatible-led}
 use Rattle.theory.proofs.Places.Demand3.{icfl-first, icfl-inside, demand-3}
 use Rattle.words.specs.Separated.{separator, mark, Unmarked, UpToSeparator, separated_icfl, separated_cfl_in, separated_icfl_ends, separated_cfl_in_ends}
 use Rattle.theory.specs.SeparatedStatements.{UnlessMark, UnmarkedPieces, SeparatedDemand3}
 use Rattle.theory.specs.Stretches.Unmarked.{unmarked-head, unmarked-tail, unmarked-drop}
-use Rattle.theory.proofs.Stretches.Separation.{Separation, whole, split, separation, icfl-unmarked, cfl-in-unmarked, icfl-split, cfl-in-split, separated-icfl-concat}
-use Rattle.theory.proofs.Stretches.Factors.{separated-icfl-is, inverse-lyndon-factor, separated-icfl-ends-rise, separated-cfl-in-ends-rise}
-use Rattle.theory.proofs.Stretches.Places.{Spot, before, at, after, spot, letter-after, slice-before, slice-after, slice_over, boundary-split, boundary-before, boundary-after, PartAt, inside, between, beyond, part-split, part-bound, part-inside, part-beyond}
+use Rattle.theory.specs.Stretches.Separation.{Separation, whole, split, separation, icfl-unmarked, cfl-in-unmarked, icfl-split, cfl-in-split, separated-icfl-concat}
+use Rattle.theory.specs.Stretches.Factors.{separated-icfl-is, inverse-lyndon-factor, separated-icfl-ends-rise}
+use Rattle.theory.proofs.Stretches.Factors.{separated-cfl-in-ends-rise}
+use Rattle.theory.specs.Stretches.Places.{Spot, before, at, after, spot, letter-after, slice-before, slice-after, slice_over, boundary-split, boundary-before, boundary-after, PartAt, inside, between, beyond, part-split, part-bound, part-inside, part-beyond}
 
 -- ---- letters up to the separator
 

@@ -1,6 +1,6 @@
 -- THEOREM lyndon-table-next. The entry at i is the distance from i to the next place whose suffix comes before the suffix at i in
 -- the inverse order, or to the end.
-use Rattle.std.specs.Prelude.{◌≡◌, ◌⊎◌, List, ◌∷◌, ℕ, ◌+◌, ◌-◌, ◌≤◌, ◌<◌, length, take, drop, get_or}
+use Rattle.std.specs.Prelude.{◌≡◌, ◌⊎◌, List, ◌∷◌, ℕ, ◌+◌, ◌-◌, ◌<◌, length, take, drop, get_or}
 use Rattle.std.proofs.Common.{subst, inl, inr, zero-le, arith, length-drop, drop-drop, length-take-le}
 use Rattle.std.proofs.Math.Decide.{dec_lt}
 use Rattle.buffers.proofs.PartLaws.{drop-to}
@@ -10,18 +10,12 @@ use Rattle.theory.specs.Orders.PrefixLaws.{take-⊑, ⊑-drop}
 use Rattle.theory.specs.Orders.MismatchLaws.{≪-extend}
 use Rattle.theory.specs.Orders.InverseLaws.{≺-≼, ≼-≺, ≼-not-≪}
 use Rattle.theory.specs.Lyndon.WordTests.{suffix-loses}
-use Rattle.theory.proofs.Lyndon.AntiLyndonLaws.{Longest, longest-is, longest-positive}
-use Rattle.theory.proofs.Places.FirstSuffixes.{Boundary, start, later}
+use Rattle.theory.specs.Lyndon.AntiLyndonLaws.{Longest, longest-is, longest-positive}
+use Rattle.theory.specs.Places.FirstSuffixes.{Boundary, start, later}
 use Rattle.theory.proofs.CflIn.CflInUnfold.{cfl-in-step}
 use Rattle.theory.proofs.CflIn.CflInFirst.{cfl-in-boundary-first}
-use Rattle.theory.proofs.Table.LyndonTableCflIn.{lyndon-table-at}
-
--- j is the next place after i whose suffix comes before the suffix at i, or the end
-pub record NextBefore (w : List ℕ) (i j : ℕ) : Type 0 where
-  pub after : i < j
-  pub inside : j ≤ length w
-  pub stops : (j ≡ length w) ⊎ (drop j w ≺ drop i w)
-  pub between : (k : ℕ) → i < k → k < j → ¬ (drop k w ≺ drop i w)
+use Rattle.theory.specs.Table.LyndonTableCflIn.{lyndon-table-at}
+use Rattle.theory.specs.Table.LyndonTableNext.{NextBefore}
 
 -- at place 0
 longest-next : (v : List ℕ) → 0 < length v → NextBefore v 0 (longest_anti_lyndon v)

@@ -1,8 +1,8 @@
 -- Merging neighbouring anti-Lyndon words, the laws behind the Lyndon table from right to left (Merged). The word w[i..j) is anti-Lyndon,
 -- and the longest one at j is known: if it comes after w[i..j), both make one (merged-more); else w[i..j) is the longest at i
 -- (merged-stops).
-use Rattle.std.specs.Prelude.{◌≡◌, ℕ, ◌+◌, ◌-◌, ◌<◌, length, take, drop, get_or}
-use Rattle.std.proofs.Common.{◌∙◌, arith, length-drop, take-append-drop, take-add, length-take-le, drop-cons}
+use Rattle.std.specs.Prelude.{◌≡◌, ℕ, ◌+◌, ◌-◌, ◌<◌, length, take, drop}
+use Rattle.std.proofs.Common.{◌∙◌, arith, length-drop, take-append-drop, take-add, length-take-le}
 use mathlib.Core.List.{List, [], ◌++◌, flatten, append-nil}
 use Rattle.std.proofs.Math.Seq.{take-length}
 use Rattle.buffers.proofs.PartLaws.{drop-to}
@@ -10,7 +10,8 @@ use Rattle.words.specs.Words.{◌≺◌, AntiLyndon}
 use Rattle.words.specs.Factorizations.{longest_anti_lyndon, cfl_in}
 use Rattle.theory.specs.Statements.{EqualOrAfter, Next, end, by, none, more}
 use Rattle.theory.specs.Orders.InverseLaws.{◌≼◌, not-≺-≼}
-use Rattle.theory.proofs.Lyndon.AntiLyndonLaws.{letter-anti-lyndon, append-anti-lyndon, ≼-equal-or-after, Longest, longest-is, longest-positive}
+use Rattle.theory.specs.Lyndon.AntiLyndonLaws.{append-anti-lyndon, Longest, longest-is, longest-positive}
+use Rattle.theory.proofs.Lyndon.AntiLyndonLaws.{≼-equal-or-after}
 use Rattle.theory.proofs.CflIn.CflInIs.{cfl-in-is}
 use Rattle.theory.proofs.CflIn.CflInUnique.{first-longest}
 use Rattle.theory.proofs.CflIn.CflInUnfold.{cfl-in-step}
@@ -28,11 +29,6 @@ longest-stops u v s l h = rw (cfl-in-is v).product at (first-longest u (cfl_in v
 pub longest-whole : (u : List ℕ) → AntiLyndon u → longest_anti_lyndon u ≡ length u
 unfolding flatten
 longest-whole u s = rw append-nil at (first-longest u [] (more s end none))
-
-pub merged-letter : (w : List ℕ) (i : ℕ) → i < length w → Merged w i (i + 1)
-merged-letter w i l =
-    let n : i + 1 - i ≡ 1 = omega arith in
-    record { after = omega arith; inside = omega arith; word = rw (n, drop-cons w i 0 l) (letter-anti-lyndon (get_or w i 0)) }
 
 module _ (w : List ℕ) (i j : ℕ) (x : Merged w i j) where
   follows : drop (j - i) (drop i w) ≡ drop j w

@@ -13,24 +13,7 @@ use Rattle.words.specs.declared.Break.{Break}
 use Rattle.theory.specs.Icfl.Failing.{failing-unique}
 use Rattle.theory.specs.Icfl.BorderLength.{step_is}
 use Rattle.theory.specs.Icfl.BoundedExtension.{extension-is}
-use Rattle.theory.specs.Breaks.BreakSteps.{
-  Ended,
-  kept,
-  joined,
-  First,
-  first-factor,
-  Steps,
-  whole,
-  step,
-  step-inside,
-  step-positive,
-  step-ended,
-  ended_same,
-  ended-in,
-  letters-rise,
-  breaks-steps,
-  steps-ends,
-}
+use Rattle.theory.specs.Breaks.BreakSteps.{Ended, kept, joined, First, first-factor, Steps, whole, step, step-inside, step-positive, step-ended, ended_same, ended-in, letters-rise, breaks-steps, steps-ends}
 
 -- ---- the places
 

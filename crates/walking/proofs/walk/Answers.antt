@@ -6,7 +6,7 @@ use mir.Val.{Fits}
 use Prim.Native.Nat.{ℕ}
 use native.Mathlib.Omega.{arith}
 use lib.ListN.{get_or}
-use Rattle.theory.proofs.Repetitions.TwoOrders.{UpTo}
+use Rattle.theory.specs.Repetitions.TwoOrders.{UpTo}
 use Rattle.common.specs.Orders.{most_byte}
 use Rattle.walking.proofs.WalkLaws.{walk_begins, walk-asks, walk_turn, walk_ends}
 use Rattle.walking.proofs.walk.Goals as goal

@@ -7,7 +7,7 @@ use lib.ListN.{get_or}
 use mir.Syntax.{w8}
 use mir.Val.{Fits}
 use Rattle.letters.proofs.OrderLaws.{sign-decides}
-use Rattle.theory.proofs.Repetitions.TwoOrders.{UpTo}
+use Rattle.theory.specs.Repetitions.TwoOrders.{UpTo}
 use Rattle.common.specs.Orders.{most_byte}
 use Rattle.common.proofs.BeforeLaws.{agree-first, rest-decides}
 use Rattle.common.proofs.InOrderLaws.{natural-decides, agree-next, parted-decide, whole-fails, prefix_holds, inverse-is}

@@ -12,16 +12,15 @@ use Rattle.words.specs.Factorizations.{icfl, ends_from, icfl_ends}
 use Rattle.theory.specs.Statements.{Next, end, by, Linked, none, BelowByBorders, Adjacent, here, there}
 use Rattle.theory.specs.Places.LinkedLaws.{linked-before, linked-after, linked-map}
 use Rattle.theory.specs.EndsStatements.{Division, Ours, OursUnmarked, last_end}
-use Rattle.theory.specs.Places.EndsRise.{Rises}
-use Rattle.theory.proofs.Places.EndsRise.{rises-few, ends-rise}
+use Rattle.theory.specs.Places.EndsRise.{Rises, rises-few, ends-rise}
 use Rattle.theory.specs.Icfl.IcflConcat.{icfl-concat}
 use Rattle.theory.specs.Icfl.IcflDominated.{dominated-borders, icfl-borders}
 use Rattle.theory.specs.Uniqueness.IcflUnique.{icfl-unique-borders}
 use Rattle.words.specs.Separated.{separated_icfl, separated_icfl_ends}
 use Rattle.theory.specs.SeparatedStatements.{MarkOr, UnlessMark}
-use Rattle.theory.proofs.Stretches.StretchEnds.{ends-later}
-use Rattle.theory.proofs.Places.Parts.{part-word, parts-linked}
-use Rattle.theory.proofs.Stretches.Factors.{separated-icfl-is, separated-icfl-unique, inverse-lyndon-factor}
+use Rattle.theory.specs.Stretches.StretchEnds.{ends-later}
+use Rattle.theory.specs.Places.Parts.{part-word, parts-linked}
+use Rattle.theory.specs.Stretches.Factors.{separated-icfl-is, separated-icfl-unique, inverse-lyndon-factor}
 
 unfoldable pub parts_from : ℕ → List ℕ → List ℕ → List (List ℕ)
 parts_from i [] w = []

@@ -10,7 +10,7 @@ use Rattle.theory.specs.Orders.PrefixLaws.{⊑_refl, ⊑-append, ⊑-split, ⊑-
 use Rattle.theory.specs.Orders.MismatchLaws.{≪-trans, ≪-asym, ≪-append, ≪-extend, ≪-cancel, Related, less, greater, within, beyond, related}
 use Rattle.theory.specs.Lyndon.WordTests.{anti-lyndon}
 use Rattle.theory.specs.RunStatements.{Repeats, Run}
-use Rattle.theory.proofs.Repetitions.RunSuffixes.{window, window-length, window-at, same-letter, repeats-at}
+use Rattle.theory.specs.Repetitions.RunSuffixes.{window, window-length, window-at, same-letter, repeats-at}
 
 -- ---- a word that is above its rotations
 

@@ -8,8 +8,8 @@ use Rattle.std.proofs.Math.Seq.{slice, take-append-add, drop-append-add}
 use Rattle.std.proofs.lemmas.List.{take-append-le, get_or_at}
 use Rattle.words.specs.Factorizations.{ends_from}
 use Rattle.theory.specs.Statements.{Adjacent, here, there, Part}
-use Rattle.theory.proofs.Places.FirstSuffixes.{Boundary, start, later, boundary-inside}
-use Rattle.theory.proofs.Places.Ends.{start-boundary, adjacent-cases, adjacent-one, adjacent-right}
+use Rattle.theory.specs.Places.FirstSuffixes.{Boundary, start, later, boundary-inside}
+use Rattle.theory.specs.Places.Ends.{start-boundary, adjacent-cases, adjacent-one, adjacent-right}
 use Rattle.words.specs.Separated.{separator, mark, Unmarked}
 use Rattle.theory.specs.Stretches.Unmarked.{unmarked-at}
 

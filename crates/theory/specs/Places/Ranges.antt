@@ -6,7 +6,7 @@ use Rattle.std.proofs.Math.Seq.{slice, drop-append-add, take-length, length-slic
 use Rattle.std.proofs.lemmas.List.{drop-append-le}
 use Rattle.words.specs.Words.{remainder, sign}
 use Rattle.theory.specs.Orders.InverseLaws.{≺-≼, ≼-≺}
-use Rattle.theory.proofs.Places.FirstSuffixes.{FirstSuffix, Leads, first-leads, range-before, before-range}
+use Rattle.theory.specs.Places.FirstSuffixes.{FirstSuffix, Leads, first-leads, range-before, before-range}
 use Rattle.theory.specs.Orders.SignLaws.{sign-same-order}
 
 module _ (w : List ℕ) (first end : ℕ) (l : first ≤ end) (h : end ≤ length w) where

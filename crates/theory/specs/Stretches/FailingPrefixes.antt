@@ -9,7 +9,7 @@ use Rattle.words.specs.Factorizations.{failing_length, border_length, prefix_len
 use Rattle.theory.specs.Orders.PrefixLaws.{take-⊑}
 use Rattle.theory.specs.Orders.LexLaws.{pre, ≤ₗ-not-≪}
 use Rattle.theory.specs.Lyndon.WordTests.{suffix-below}
-use Rattle.theory.proofs.Lyndon.AntiLyndonLaws.{letter-anti-lyndon, anti-inverse-lyndon}
+use Rattle.theory.specs.Lyndon.AntiLyndonLaws.{letter-anti-lyndon, anti-inverse-lyndon}
 use Rattle.theory.specs.Icfl.Extension.{prefix-inverse-lyndon}
 use Rattle.theory.specs.Icfl.Failing.{Failing, failing-is, failing-unique, Shortest}
 use Rattle.theory.specs.Icfl.BorderLength.{border-least, least-border-is, prefix-length}

@@ -1,7 +1,7 @@
 -- THEOREM examples. The judge on lists of ends: J's own (paper 01), its list 7, 12, 15, which fails by the border alone, one list for each other fault, and a record
 -- with two marks: its own ends, and lists that join a mark to a mark or to the letters beside it.
 use Rattle.std.specs.Prelude.{◌≡◌, refl, List, [], ◌∷◌, map, ℕ}
-use Rattle.theory.proofs.Judging.Judge.{judged_from}
+use Rattle.theory.specs.Judging.Judge.{judged_from}
 
 abbrev a : ℕ
 a = 97

@@ -5,8 +5,7 @@ use Rattle.std.specs.Prelude.{◌≡◌, refl, ◌⊎◌, List, [], ◌∷◌, �
 use Rattle.std.proofs.Common.{inl, inr, arith}
 use Rattle.words.specs.Pairs.{ends_of}
 use Rattle.theory.specs.PairStatements.{Pair, here, there}
-use Rattle.theory.specs.Places.EndsRise.{Rises}
-use Rattle.theory.proofs.Places.EndsRise.{rises-most}
+use Rattle.theory.specs.Places.EndsRise.{Rises, rises-most}
 
 pub data Paired (n : ℕ) : ℕ → List ℕ → Type 0 where
   done : {b : ℕ} → b ≡ n → Paired n b []

@@ -10,12 +10,12 @@ use Rattle.std.proofs.Math.Seq.{take-append-add, drop-append_seam}
 use Rattle.words.specs.Words.{◌≪◌, here, there, AntiLyndon}
 use Rattle.words.specs.Factorizations.{longest_anti_lyndon, lyndon_table}
 use Rattle.theory.specs.Lyndon.WordTests.{suffix-loses}
-use Rattle.theory.proofs.Lyndon.AntiLyndonLaws.{Longest, longest-is, longest-positive, longest-unique}
-use Rattle.theory.proofs.Table.LyndonTableCflIn.{lyndon-table-length}
+use Rattle.theory.specs.Lyndon.AntiLyndonLaws.{Longest, longest-is, longest-positive, longest-unique}
+use Rattle.theory.specs.Table.LyndonTableCflIn.{lyndon-table-length}
 use Rattle.words.specs.Separated.{separator, separated_table, UpToSeparator}
 use Rattle.theory.specs.Stretches.Unmarked.{unmarked-at}
-use Rattle.theory.proofs.Stretches.Separation.{Separation, whole, split, separation, table-unmarked, table-split}
-use Rattle.theory.proofs.Stretches.Places.{Spot, before, at, after, spot, letter-after}
+use Rattle.theory.specs.Stretches.Separation.{Separation, whole, split, separation, table-unmarked, table-split}
+use Rattle.theory.specs.Stretches.Places.{Spot, before, at, after, spot, letter-after}
 
 -- ---- a letter above the first
 

@@ -9,9 +9,8 @@ use Rattle.std.proofs.Math.ListN.{length, length-append}
 use Rattle.std.proofs.Math.Seq.{slice}
 use Rattle.words.specs.Factorizations.{ends_from}
 use Rattle.theory.specs.Statements.{Adjacent, Next, by, Linked}
-use Rattle.theory.proofs.Places.Ends.{adjacent-cases, adjacent-one}
-use Rattle.theory.specs.Places.EndsRise.{Rises, done, more}
-use Rattle.theory.proofs.Places.EndsRise.{rises-most, rises-head, rises-tail}
+use Rattle.theory.specs.Places.Ends.{adjacent-cases, adjacent-one}
+use Rattle.theory.specs.Places.EndsRise.{Rises, done, more, rises-most, rises-head, rises-tail}
 
 pub rises-above : {n b e : ℕ} {es : List ℕ} → Rises n b es → Memᴰ e es → b < e
 rises-above (done z) x = absurd (Memᴰ.not-nil x)

@@ -14,7 +14,7 @@ use Rattle.theory.specs.Lyndon.WordTests.{inverse-lyndon-test}
 use Rattle.theory.specs.Breaks.IcflBreaks.{icfl-breaks}
 use Rattle.words.specs.Separated.{separator, Unmarked, stretches, breaks_over, separated_breaks}
 use Rattle.theory.specs.SeparatedStatements.{moved}
-use Rattle.theory.proofs.Stretches.Separation.{Separation, whole, split, separation, stretches-whole, stretches-split}
+use Rattle.theory.specs.Stretches.Separation.{Separation, whole, split, separation, stretches-whole, stretches-split}
 
 abbrev pub later : ℕ → List ℕ → List ℕ
 later i es = map (λ e. i + e) es

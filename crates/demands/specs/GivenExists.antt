@@ -5,8 +5,9 @@ use Rattle.std.proofs.Common.{arith, le-ltb}
 use Rattle.std.proofs.lemmas.List.{length-replicate}
 use Rattle.words.specs.Separated.{UpToSeparator, separated_icfl_ends, separated_cfl_in_ends}
 use Rattle.words.specs.Pairs.{ends_of}
-use Rattle.theory.proofs.Places.EndsRise.{rises-few}
-use Rattle.theory.proofs.Stretches.Factors.{separated-icfl-ends-rise, separated-cfl-in-ends-rise}
+use Rattle.theory.specs.Places.EndsRise.{rises-few}
+use Rattle.theory.specs.Stretches.Factors.{separated-icfl-ends-rise}
+use Rattle.theory.proofs.Stretches.Factors.{separated-cfl-in-ends-rise}
 use Rattle.checks.specs.Lines.{tried}
 use Rattle.checks.specs.declared.Checked.TheVariants.{Passed}
 use Rattle.checks.proofs.LineLaws.{all_pass, both-pass, count-given}

@@ -5,7 +5,7 @@ use mathlib.Core.List.Memᴰ
 use mathlib.Core.List.{List, [], ◌∷◌, Memᴰ}
 use Rattle.words.specs.Factorizations.{ends_from}
 use Rattle.theory.specs.Statements.{Adjacent, here, there}
-use Rattle.theory.proofs.Places.FirstSuffixes.{Boundary, start, later}
+use Rattle.theory.specs.Places.FirstSuffixes.{Boundary, start, later}
 
 -- ---- boundaries
 
