@@ -8,7 +8,10 @@ use Rattle.batch.proofs.Cutting.{Cutting}
 use Rattle.batch.proofs.icfl_batch.Given as goal
 
 abbrev pub invariant-loop-i : goal.invariant-loop-i
-invariant-loop-i l = Cutting record_lines l.bytes l.record_ends l.initial.work l.initial.pairs l.work l.pairs l.answers l.from l.used l.i × (length l.work ≡ length l.initial.work) × (length l.pairs ≡ length l.initial.pairs)
+invariant-loop-i l =
+    Cutting record_lines l.bytes l.record_ends l.initial.work l.initial.pairs l.work l.pairs l.answers l.from l.used l.i
+    × (length l.work ≡ length l.initial.work)
+    × (length l.pairs ≡ length l.initial.pairs)
 
 abbrev pub decreases-loop-i : goal.decreases-loop-i
 decreases-loop-i l = length l.record_ends - l.i

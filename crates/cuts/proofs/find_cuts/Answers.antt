@@ -27,6 +27,10 @@ inside-at c = let inv = c.loop-from.invariant in
       (cut-at c).positive,
     )
 
+-- the buffer still has its three entries a letter
+room-after : (c : In-After) → 3 * length c.args.word.now ≤ length c.first_cut-found.new.work
+room-after c = omega (arith, c.loop-from.invariant.long, c.first_cut-found.auto, c.requires.entries)
+
 pub loop-from-init : goal.loop-from-init
 loop-from-init c = find-starts _ _ c.requires
 
@@ -80,7 +84,7 @@ pub overflow_add-cuts : goal.overflow_add-cuts
 overflow_add-cuts c = omega (arith, inside-at (goal.at.overflow_add-cuts c).In-After)
 
 pub beside_separator-requires : goal.beside_separator-requires
-beside_separator-requires c = (omega (arith, inside-at (goal.at.beside_separator-requires c).In-After), omega (arith, inside-at (goal.at.beside_separator-requires c).In-After))
+beside_separator-requires c = let inside = inside-at (goal.at.beside_separator-requires c).In-After in (omega (arith, inside), omega (arith, inside))
 
 pub overflow_add-breaks : goal.overflow_add-breaks
 overflow_add-breaks c =
@@ -93,7 +97,7 @@ loop-from-smaller-then-not-beside_separator c =
 pub loop-from-preserved-then-not-beside_separator : goal.loop-from-preserved-then-not-beside_separator
 loop-from-preserved-then-not-beside_separator c =
     find-break _ _ _ _ _ _ _ _ c.loop-from.invariant _ c.first_cut-found.ensures _ _ c.in-After.is
-    (omega (arith, inside-at (goal.at.loop-from-preserved-then-not-beside_separator c).In-After, c.loop-from.invariant.long, c.first_cut-found.auto, c.requires.entries)) c.first_cut-found.auto.work
+    (room-after (goal.at.loop-from-preserved-then-not-beside_separator c).In-After) c.first_cut-found.auto.work
     (sym c.beside_separator.ensures ∙ c.if-not-beside_separator.true)
 
 pub loop-from-smaller : goal.loop-from-smaller
@@ -103,7 +107,7 @@ loop-from-smaller c =
 pub loop-from-preserved : goal.loop-from-preserved
 loop-from-preserved c =
     find-beside _ _ _ _ _ _ _ _ c.loop-from.invariant _ c.first_cut-found.ensures _ _ c.in-After.is
-    (omega (arith, inside-at (goal.at.loop-from-preserved c).In-After, c.loop-from.invariant.long, c.first_cut-found.auto, c.requires.entries)) c.first_cut-found.auto.work
+    (room-after (goal.at.loop-from-preserved c).In-After) c.first_cut-found.auto.work
     (sym c.beside_separator.ensures ∙ c.if-not-beside_separator.false)
 
 pub returns : goal.returns

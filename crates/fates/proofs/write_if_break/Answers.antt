@@ -11,7 +11,8 @@ use Rattle.fates.proofs.write_if_break.Goals.{Else-beside_separator}
 -- the cut is a break, and its entries have room
 room_at : (c : Else-beside_separator) → c.args.at + 5 ≤ length c.args.buffer.now
 room_at c =
-    break-room _ _ (break_by c.args.word.now c.args.place c.args.begun c.args.border c.args.end) _ (sym c.beside_separator.ensures ∙ c.if-beside_separator.false) c.requires.1
+    let told = break_by c.args.word.now c.args.place c.args.begun c.args.border c.args.end in
+    break-room _ _ told _ (sym c.beside_separator.ensures ∙ c.if-beside_separator.false) c.requires.1
 
 pub beside_separator-requires : goal.beside_separator-requires
 beside_separator-requires c = let near = c.requires.0 in (omega (arith, near.forward), omega (arith, near.inside))

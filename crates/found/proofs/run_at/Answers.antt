@@ -51,7 +51,9 @@ pub slice_bounds-common_length-start-2 : goal.slice_bounds-common_length-start-2
 slice_bounds-common_length-start-2 c = omega (arith, inside-here _ _ _ c.type_inv.word c.requires c.period_at-period.ensures)
 
 pub overflow_add-left : goal.overflow_add-left
-overflow_add-left c = omega (arith, end-here _ _ _ c.type_inv.word c.requires c.period_at-period.ensures c.left_of-left.ensures c.common_length-right.ensures, left-here _ _ _ c.left_of-left.ensures)
+overflow_add-left c =
+    let left = c.left_of-left.ensures in
+    omega (arith, end-here _ _ _ c.type_inv.word c.requires c.period_at-period.ensures left c.common_length-right.ensures, left-here _ _ _ left)
 
 pub returns-then-left-right : goal.returns-then-left-right
 returns-then-left-right c =

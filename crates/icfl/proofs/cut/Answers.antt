@@ -22,20 +22,15 @@ room_at : (c : In-Passed) → (CutRoom c.args.word.now c.args.work.now)
 room_at c = cut-room c.requires (work-fits-at c)
 
 -- the entries that will be cleared lie in the work buffer
-inside-at : (c : After-find_ends-found) → ((3 * length c.args.word.now ≤ length c.find_ends-found.new.work) × (length c.args.word.now ≤ length c.find_ends-found.new.work)
-    × (length c.args.word.now ≤ most_letters))
+inside-at : (c : After-find_ends-found) → (3 * length c.args.word.now ≤ length c.find_ends-found.new.work)
+    × (length c.args.word.now ≤ length c.find_ends-found.new.work) × (length c.args.word.now ≤ most_letters)
 inside-at c =
-    let work-fits-at : (tried (work_lines c.args.word.now (length c.args.work.now)) ≡ Passed) =
-    passed _ c.check_work-work_fits.ensures c.in-Passed.is
-    in
-    let room_at : (CutRoom c.args.word.now c.args.work.now) =
-    cut-room c.requires (work-fits-at)
-    in
-    let room = room_at in
+    let room = cut-room c.requires (passed _ c.check_work-work_fits.ensures c.in-Passed.is) in
     (omega (arith, room.entries, c.find_ends-found.auto), omega (arith, room.entries, c.find_ends-found.auto), room.short)
 
 -- line 4, by the number of factors that was found
-tried-at : (c : After-check_result-pairs_fit) → (c.check_result-pairs_fit.result ≡ tried (result_line (length c.args.pairs.now) (2 * (length c.args.word.now - c.find_ends-found.result.first)) ∷ []))
+tried-at : (c : After-check_result-pairs_fit)
+    → c.check_result-pairs_fit.result ≡ tried (result_line (length c.args.pairs.now) (2 * (length c.args.word.now - c.find_ends-found.result.first)) ∷ [])
 tried-at c = c.check_result-pairs_fit.ensures ∙ rw c.entries.ensures
 
 pub returns-in_default : goal.returns-in_default
@@ -55,7 +50,8 @@ clear-requires c = omega (arith, inside-at (goal.at.clear-requires c).After-find
 
 pub returns-in_default-pairs_fit : goal.returns-in_default-pairs_fit
 returns-in_default-pairs_fit c =
-    pairs-refused _ _ _ (work-fits-at (goal.at.returns-in_default-pairs_fit c).In-Passed) c.find_ends-found.ensures (inside-at (goal.at.returns-in_default-pairs_fit c).After-find_ends-found).1 c.clear.ensures
+    let inside = inside-at (goal.at.returns-in_default-pairs_fit c).After-find_ends-found in
+    pairs-refused _ _ _ (work-fits-at (goal.at.returns-in_default-pairs_fit c).In-Passed) c.find_ends-found.ensures inside.1 c.clear.ensures
     (tried-at (goal.at.returns-in_default-pairs_fit c).After-check_result-pairs_fit) c.in_default-pairs_fit.not-Passed c.number-in_default-pairs_fit.ensures
 
 pub slice_bounds-write_pairs-end : goal.slice_bounds-write_pairs-end
@@ -64,7 +60,8 @@ slice_bounds-write_pairs-end c = omega (arith, inside-at (goal.at.slice_bounds-w
 pub write_pairs-requires : goal.write_pairs-requires
 write_pairs-requires c =
     let inside = inside-at (goal.at.write_pairs-requires c).After-find_ends-found in
-    pairs-room c.find_ends-found.ensures inside.1 inside.2 (enough 4 _ _ (passed _ (tried-at (goal.at.write_pairs-requires c).After-check_result-pairs_fit) c.in-Passed-pairs_fit.is))
+    let said = tried-at (goal.at.write_pairs-requires c).After-check_result-pairs_fit in
+    pairs-room c.find_ends-found.ensures inside.1 inside.2 (enough 4 _ _ (passed _ said c.in-Passed-pairs_fit.is))
 
 pub overflow_mul-n-2 : goal.overflow_mul-n-2
 overflow_mul-n-2 c = omega (arith, inside-at (goal.at.overflow_mul-n-2 c).After-find_ends-found)
@@ -74,5 +71,6 @@ clear-requires-2 c = omega (arith, inside-at (goal.at.clear-requires-2 c).After-
 
 pub returns : goal.returns
 returns c =
-    pairs-written _ _ _ (work-fits-at (goal.at.returns c).In-Passed) c.find_ends-found.ensures (inside-at (goal.at.returns c).After-find_ends-found).1 c.clear-2.ensures
+    let inside = inside-at (goal.at.returns c).After-find_ends-found in
+    pairs-written _ _ _ (work-fits-at (goal.at.returns c).In-Passed) c.find_ends-found.ensures inside.1 c.clear-2.ensures
     (passed _ (tried-at (goal.at.returns c).After-check_result-pairs_fit) c.in-Passed-pairs_fit.is) c.write_pairs.ensures

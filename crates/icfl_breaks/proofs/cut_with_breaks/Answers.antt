@@ -22,16 +22,10 @@ room_at : (c : In-Passed) → (CutRoom c.args.word.now c.args.work.now)
 room_at c = cut-room c.requires (work-fits-at c)
 
 -- the entries that will be cleared lie in the work buffer
-inside-at : (c : After-find_ends-found) → ((3 * length c.args.word.now ≤ length c.find_ends-found.new.work) × (length c.args.word.now ≤ length c.find_ends-found.new.work)
-    × (length c.args.word.now ≤ most_letters))
+inside-at : (c : After-find_ends-found) → (3 * length c.args.word.now ≤ length c.find_ends-found.new.work)
+    × (length c.args.word.now ≤ length c.find_ends-found.new.work) × (length c.args.word.now ≤ most_letters)
 inside-at c =
-    let work-fits-at : (tried (work_lines c.args.word.now (length c.args.work.now)) ≡ Passed) =
-    passed _ c.check_work-work_fits.ensures c.in-Passed.is
-    in
-    let room_at : (CutRoom c.args.word.now c.args.work.now) =
-    cut-room c.requires (work-fits-at)
-    in
-    let room = room_at in
+    let room = cut-room c.requires (passed _ c.check_work-work_fits.ensures c.in-Passed.is) in
     (omega (arith, room.entries, c.find_ends-found.auto), omega (arith, room.entries, c.find_ends-found.auto), room.short)
 
 -- what both lines with number 4 say
@@ -44,13 +38,9 @@ tried-at c = let pairs-fit = rw c.entries.ensures at c.check_result-pairs_fit.en
 fits-at : (c : In-Passed-both_fit) → ((2 * (length c.args.word.now - c.find_ends-found.result.first) ≤ length c.args.pairs.now)
     × (5 * c.find_ends-found.result.breaks ≤ length c.args.breaks.now))
 fits-at c =
-    let tried-at : (c.then-both_fit.result ≡ tried (room_lines (length c.args.pairs.now) (length c.args.breaks.now)
-    (length c.args.word.now - c.find_ends-found.result.first) c.find_ends-found.result.breaks)) =
     let pairs-fit = rw c.entries.ensures at c.check_result-pairs_fit.ensures in
-    both _ _ c.then-both_fit.ensures pairs-fit c.check_result.ensures
-    in
     rooms (length c.args.pairs.now) (length c.args.breaks.now) (length c.args.word.now - c.find_ends-found.result.first)
-    c.find_ends-found.result.breaks (passed _ (tried-at) c.in-Passed-both_fit.is)
+    c.find_ends-found.result.breaks (passed _ (both _ _ c.then-both_fit.ensures pairs-fit c.check_result.ensures) c.in-Passed-both_fit.is)
 
 pub returns-in_default : goal.returns-in_default
 returns-in_default c = breaks-work-refused _ _ _ _ c.check_work-work_fits.ensures c.in_default.not-Passed c.number.ensures
@@ -73,7 +63,8 @@ clear-requires c = omega (arith, inside-at (goal.at.clear-requires c).After-find
 
 pub returns-in_default-both_fit : goal.returns-in_default-both_fit
 returns-in_default-both_fit c =
-    breaks-refused _ _ _ _ (work-fits-at (goal.at.returns-in_default-both_fit c).In-Passed) c.find_ends-found.ensures (inside-at (goal.at.returns-in_default-both_fit c).After-find_ends-found).1
+    let inside = inside-at (goal.at.returns-in_default-both_fit c).After-find_ends-found in
+    breaks-refused _ _ _ _ (work-fits-at (goal.at.returns-in_default-both_fit c).In-Passed) c.find_ends-found.ensures inside.1
     c.clear.ensures (tried-at (goal.at.returns-in_default-both_fit c).After-then-both_fit) c.in_default-both_fit.not-Passed c.number-in_default-both_fit.ensures
 
 pub slice_bounds-write_pairs-end : goal.slice_bounds-write_pairs-end
@@ -108,5 +99,6 @@ clear-requires-2 c =
 
 pub returns : goal.returns
 returns c =
-    breaks-written _ _ _ _ (work-fits-at (goal.at.returns c).In-Passed) c.find_ends-found.ensures (inside-at (goal.at.returns c).After-find_ends-found).1 c.clear-2.ensures
+    let inside = inside-at (goal.at.returns c).After-find_ends-found in
+    breaks-written _ _ _ _ (work-fits-at (goal.at.returns c).In-Passed) c.find_ends-found.ensures inside.1 c.clear-2.ensures
     (passed _ (tried-at (goal.at.returns c).After-then-both_fit) c.in-Passed-both_fit.is) c.write_pairs.ensures c.write_breaks.ensures
