@@ -1,5 +1,5 @@
--- The lines of the table, whatever they are: what is known in the two branches of `let Checked::Passed = k else` (passed, refused, not-both), lines
--- that are tried in two parts (both, refused-first, passed_first), at a call's door and past it (refused-at-door, past-door, both-pass, both-passed), what it
+-- The lines of the table, whatever they are: an answer that is refused (refused) or passed up by `?` (passed-up), a check says one of the two (not-both), lines
+-- that are tried in two parts (refused-first, passed_first), at a call's door and past it (refused-at-door, past-door, both-pass, both-passed), what it
 -- tells that all pass (unmet, all_pass), what an answer says (reading, said, gave, count-given), which numbers can come (first-listed, zero-passes, numbered_is, unless-but), and
 -- calls that fill a result buffer (filled-refused, filled-done; at a door filled-at-door, filled-past-door; and back: filled-counted, filled-entries,
 -- filled-front, filled-number).
@@ -13,39 +13,32 @@ use lib.Dec.{eqb, ltb}
 use lib.ListN.{length, take, drop, length-append}
 use lib.Seq.{take_at}
 use borrow.Author.Tests.{eqb-true, ltb-true, not-true}
+use Rattle.std.specs.Prelude.{Result, Ok, Err, IsErrAnd}
+use Rattle.std.proofs.lemmas.Result.{err_from_is_err_and}
 use Rattle.buffers.specs.Buffers.{written}
-use Rattle.checks.specs.declared.Checked.{Checked}
-use Rattle.checks.specs.declared.Checked.TheVariants.{Passed, Refused}
-use Rattle.checks.specs.declared.Counted.{Counted}
-use Rattle.checks.specs.Lines.{Line, ◌when◌, tried, decided, ◌unless◌then◌}
-use Rattle.checks.specs.Answers.{number_of, numbered, first_of, Says, gives, refuses, checked, count_says, Filled}
+use Rattle.checks.specs.declared.refusals.Refusal.{Refusal}
+use Rattle.checks.specs.Lines.{Line, ◌when◌, Checked, Passed, Refused, tried, decided, ◌unless◌then◌}
+use Rattle.checks.specs.Answers.{number_of, checked_number, numbered, Says, gives, refuses, checked, count_says, Filled}
 
--- ---- a check k: the two branches of `let Checked::Passed = k else`
-
-abbrev pub IsPassed : Checked → Type 0
-IsPassed k = k ≡ Passed
-
-abbrev pub IsRefused : Checked → Type 0
-IsRefused k = ¬ (k ≡ Passed)
+-- ---- answers
 
 -- a refusal is what it stands for, whatever the result would have been
-is-refused : {A : Type 0} (k : Checked) (result : A) (refusal : ℕ → A) → IsRefused k → refusal (number_of k) ≡ decided k result refusal
-is-refused Passed result refusal h = absurd (h refl)
-is-refused (Refused number) result refusal h = refl
+pub refused : {A : Type 0} (lines : List Line) (result : A) (refusal : ℕ → A) {m : ℕ} → Refused m ≡ tried lines → refusal m ≡ result unless lines then refusal
+refused lines result refusal e = ap (λ (t : Checked). decided t result refusal) e
+
+-- what `?` answers is the refusal that it was given
+pub passed-up : {T : Type 0} (r : Result T Refusal) {e : Refusal} → IsErrAnd r (λ d. d ≡ e) → r ≡ Err e
+passed-up r x = let p = err_from_is_err_and r x in p.1 ∙ ap (λ (d : Refusal). Err d) p.2
 
 -- a check says one of the two
 pub not-both : {k : Checked} {e : ℕ} → k ≡ Refused e → ¬ (k ≡ Passed)
 not-both x y = let b : ◌≡◌ {A = ℕ} 0 1 = cc in absurd (omega arith)
 
-pub passed : (lines : List Line) {k : Checked} → k ≡ tried lines → IsPassed k → tried lines ≡ Passed
-passed lines e h = sym e ∙ h
-
--- m is the number that is passed up
-pub refused : {A : Type 0} (lines : List Line) (result : A) (refusal : ℕ → A) {k : Checked} {m : ℕ}
-    → k ≡ tried lines → IsRefused k → m ≡ number_of k → refusal m ≡ result unless lines then refusal
-refused lines result refusal {k} e h z = ap refusal z ∙ is-refused k result refusal h ∙ ap (λ (t : Checked). decided t result refusal) e
-
 -- ---- lines that are tried in two parts
+
+-- the first refusal of two
+abbrev first_of : Checked → Checked → Checked
+first_of k next = decided k next Refused
 
 parts : (lines more : List Line) → first_of (tried lines) (tried more) ≡ tried (lines ++ more)
 unfolding tried
@@ -53,15 +46,8 @@ parts [] more = refl
 parts (number when true ∷ lines) more = refl
 parts (number when false ∷ lines) more = parts lines more
 
-pub both : (lines more : List Line) {k l r : Checked} → r ≡ first_of k l → k ≡ tried lines → l ≡ tried more → r ≡ tried (lines ++ more)
-both lines more e p q = e ∙ rw (p, q) (parts lines more)
-
-pub refused-first : (lines more : List Line) {k : Checked} → k ≡ tried lines → IsRefused k → k ≡ tried (lines ++ more)
-refused-first lines more {k} e h = both lines more (same k h) e refl
-  where
-    same : (k : Checked) → IsRefused k → k ≡ first_of k (tried more)
-    same Passed h = absurd (h refl)
-    same (Refused number) h = refl
+pub refused-first : (lines more : List Line) {m : ℕ} → Refused m ≡ tried lines → Refused m ≡ tried (lines ++ more)
+refused-first lines more e = ap (λ (k : Checked). first_of k (tried more)) e ∙ parts lines more
 
 pub passed_first : (lines more : List Line) {k : Checked} → tried lines ≡ Passed → k ≡ tried more → k ≡ tried (lines ++ more)
 passed_first lines more p e = e ∙ (rw p at (parts lines more))
@@ -83,9 +69,9 @@ both-passed door own e = go (tried door) (tried own) (parts door own ∙ e)
     go (Refused number) l e = absurd (not-both refl e)
 
 -- a call that is refused at its door
-pub refused-at-door : {A : Type 0} (door own : List Line) (result : A) (refusal : ℕ → A) {k : Checked} {m : ℕ}
-    → k ≡ tried door → IsRefused k → m ≡ number_of k → refusal m ≡ result unless door ++ own then refusal
-refused-at-door door own result refusal e h z = refused (door ++ own) result refusal (refused-first door own e h) h z
+pub refused-at-door : {A : Type 0} (door own : List Line) (result : A) (refusal : ℕ → A) {m : ℕ} → Refused m ≡ tried door
+    → refusal m ≡ result unless door ++ own then refusal
+refused-at-door door own result refusal e = refused (door ++ own) result refusal (refused-first door own e)
 
 -- more lines that pass where the others do change nothing
 pub first_alone : (lines more : List Line) → (tried lines ≡ Passed → tried more ≡ Passed) → tried (lines ++ more) ≡ tried lines
@@ -131,9 +117,9 @@ gave values Passed e p = (refl, e)
 gave values (Refused number) e p = absurd (not-both (ap checked e) p)
 
 -- a result is known by what it says
-pub count-given : (r : Counted) {n : ℕ} → count_says r ≡ gives n → r ≡ Counted.Count n
-count-given (Counted.Count m) {n} e = let z : m ≡ n = cc in ap (λ (t : ℕ). Counted.Count t) z
-count-given (Counted.Refused number) e = let z : ◌≡◌ {A = ℕ} 0 1 = cc in absurd (omega arith)
+pub count-given : (r : Result ℕ Refusal) {n : ℕ} → count_says r ≡ gives n → r ≡ Ok n
+count-given (Ok m) {n} e = let z : m ≡ n = cc in ap (λ (t : ℕ). Ok t) z
+count-given (Err refusal) e = let z : ◌≡◌ {A = ℕ} 0 1 = cc in absurd (omega arith)
 
 both_true : (a b : Bool) → (a && b) ≡ true → (a ≡ true) × (b ≡ true)
 both_true true b e = (refl, e)
@@ -159,19 +145,18 @@ every-weaker test other h (number when met ∷ lines) e =
     rw (h number u.0) (every-weaker test other h lines u.1)
 
 -- so it holds for the number of the line that refuses
-pub number-tested : (test : ℕ → Bool) (lines : List Line) → every_number test lines ≡ true → (tried lines ≡ Passed) ⊎ (test (number_of (tried lines)) ≡ true)
+pub number-tested : (test : ℕ → Bool) (lines : List Line) → every_number test lines ≡ true → (tried lines ≡ Passed) ⊎ (test (checked_number (tried lines)) ≡ true)
 unfolding tried
 number-tested test [] e = inl refl
 number-tested test (number when true ∷ lines) e = inr (both_true (test number) (every_number test lines) e).0
 number-tested test (number when false ∷ lines) e = number-tested test lines (both_true (test number) (every_number test lines) e).1
 
-pub refused-tested : (test : ℕ → Bool) (lines : List Line) {k : Checked} {m : ℕ} → every_number test lines ≡ true → k ≡ tried lines → IsRefused k → m ≡ number_of k
-    → test m ≡ true
-refused-tested test lines {k} {m} every e h z = go (number-tested test lines every)
+pub refused-tested : (test : ℕ → Bool) (lines : List Line) {m : ℕ} → every_number test lines ≡ true → Refused m ≡ tried lines → test m ≡ true
+refused-tested test lines {m} every e = go (number-tested test lines every)
   where
-    go : (tried lines ≡ Passed) ⊎ (test (number_of (tried lines)) ≡ true) → test m ≡ true
-    go (inl p) = absurd (h (e ∙ p))
-    go (inr t) = ap test (z ∙ ap number_of e) ∙ t
+    go : (tried lines ≡ Passed) ⊎ (test (checked_number (tried lines)) ≡ true) → test m ≡ true
+    go (inl p) = absurd (not-both (sym e) p)
+    go (inr t) = ap (λ (k : Checked). test (checked_number k)) e ∙ t
 
 abbrev pub among : List ℕ → ℕ → Bool
 among [] n = false
@@ -202,26 +187,26 @@ among_second (m ∷ ms) ns n e = go (eqb n m) (among_second ms ns n e)
     go false h = h
 
 -- the numbers of a call's lines are its refusals
-pub first-listed : (lines : List Line) (ms : List ℕ) → every_number (among ms) lines ≡ true → (tried lines ≡ Passed) ⊎ Memᴰ (number_of (tried lines)) ms
+pub first-listed : (lines : List Line) (ms : List ℕ) → every_number (among ms) lines ≡ true → (tried lines ≡ Passed) ⊎ Memᴰ (checked_number (tried lines)) ms
 first-listed lines ms e = go (number-tested (among ms) lines e)
   where
-    go : (tried lines ≡ Passed) ⊎ (among ms (number_of (tried lines)) ≡ true) → (tried lines ≡ Passed) ⊎ Memᴰ (number_of (tried lines)) ms
+    go : (tried lines ≡ Passed) ⊎ (among ms (checked_number (tried lines)) ≡ true) → (tried lines ≡ Passed) ⊎ Memᴰ (checked_number (tried lines)) ms
     go (inl p) = inl p
     go (inr h) = inr (among-is ms _ h)
 
 -- no line has the number 0, so 0 says that all pass
-pub zero-passes : (lines : List Line) → every_number (ltb 0) lines ≡ true → number_of (tried lines) ≡ 0 → tried lines ≡ Passed
+pub zero-passes : (lines : List Line) → every_number (ltb 0) lines ≡ true → checked_number (tried lines) ≡ 0 → tried lines ≡ Passed
 zero-passes lines e z = go (number-tested (ltb 0) lines e)
   where
-    go : (tried lines ≡ Passed) ⊎ (ltb 0 (number_of (tried lines)) ≡ true) → tried lines ≡ Passed
+    go : (tried lines ≡ Passed) ⊎ (ltb 0 (checked_number (tried lines)) ≡ true) → tried lines ≡ Passed
     go (inl p) = p
-    go (inr h) = absurd (omega (arith, z, ltb-true 0 (number_of (tried lines)) h))
+    go (inr h) = absurd (omega (arith, z, ltb-true 0 (checked_number (tried lines)) h))
 
 -- so a number says as much as the check
-pub numbered_is : (lines : List Line) → every_number (ltb 0) lines ≡ true → numbered (number_of (tried lines)) ≡ tried lines
+pub numbered_is : (lines : List Line) → every_number (ltb 0) lines ≡ true → numbered (checked_number (tried lines)) ≡ tried lines
 numbered_is lines e = go (tried lines) (zero-passes lines e)
   where
-    go : (k : Checked) → (number_of k ≡ 0 → k ≡ Passed) → numbered (number_of k) ≡ k
+    go : (k : Checked) → (checked_number k ≡ 0 → k ≡ Passed) → numbered (checked_number k) ≡ k
     go Passed h = refl
     go (Refused zero) h = sym (h refl)
     go (Refused (suc number)) h = refl
@@ -245,23 +230,23 @@ unless-but result other (m when false ∷ lines) more number e f =
 
 -- ---- calls that fill a result buffer
 
-pub filled-refused : {k : Checked} {m : ℕ} {lines : List Line} (n : ℕ) (vs buffer : List ℕ) → k ≡ tried lines → IsRefused k → m ≡ number_of k
-    → Filled lines n vs buffer (Counted.Refused m) buffer
-filled-refused {lines = lines} n vs buffer e h z = record {
-  answer = refused lines (gives n) (λ (i : ℕ). refuses i) e h z;
-  result = refused lines (written vs buffer) (λ (i : ℕ). buffer) e h z;
+pub filled-refused : {e : Refusal} {lines : List Line} (n : ℕ) (vs buffer : List ℕ) → Refused (number_of e) ≡ tried lines
+    → Filled lines n vs buffer (Err e) buffer
+filled-refused {lines = lines} n vs buffer e = record {
+  answer = refused lines (gives n) (λ (i : ℕ). refuses i) e;
+  result = refused lines (written vs buffer) (λ (i : ℕ). buffer) e;
 }
 
 pub filled-done : {lines : List Line} {n m : ℕ} {vs buffer buffer' : List ℕ} → tried lines ≡ Passed → m ≡ n → buffer' ≡ written vs buffer
-    → Filled lines n vs buffer (Counted.Count m) buffer'
+    → Filled lines n vs buffer (Ok m) buffer'
 filled-done p z e = record { answer = rw p (ap (λ (t : ℕ). gives t) z); result = rw p e }
 
 -- the two ways through a door
-pub filled-at-door : (door own : List Line) (n : ℕ) (vs buffer : List ℕ) {k : Checked} {m : ℕ} → k ≡ tried door → IsRefused k → m ≡ number_of k
-    → Filled (door ++ own) n vs buffer (Counted.Refused m) buffer
-filled-at-door door own n vs buffer e h z = filled-refused n vs buffer (refused-first door own e h) h z
+pub filled-at-door : (door own : List Line) (n : ℕ) (vs buffer : List ℕ) {e : Refusal} → Refused (number_of e) ≡ tried door
+    → Filled (door ++ own) n vs buffer (Err e) buffer
+filled-at-door door own n vs buffer e = filled-refused n vs buffer (refused-first door own e)
 
-pub filled-past-door : (door : List Line) {own : List Line} {n : ℕ} {vs buffer buffer' : List ℕ} {r : Counted} → tried door ≡ Passed → Filled own n vs buffer r buffer'
+pub filled-past-door : (door : List Line) {own : List Line} {n : ℕ} {vs buffer buffer' : List ℕ} {r : Result ℕ Refusal} → tried door ≡ Passed → Filled own n vs buffer r buffer'
     → Filled (door ++ own) n vs buffer r buffer'
 filled-past-door door {own} {n} {vs} {buffer} p f = record {
   answer = f.answer ∙ past-door door own (gives n) (λ (i : ℕ). refuses i) p;
@@ -269,7 +254,7 @@ filled-past-door door {own} {n} {vs} {buffer} p f = record {
 }
 
 -- what the cases of the answer tell
-pub filled-counted : {lines : List Line} {n m : ℕ} {vs buffer buffer' : List ℕ} → Filled lines n vs buffer (Counted.Count m) buffer'
+pub filled-counted : {lines : List Line} {n m : ℕ} {vs buffer buffer' : List ℕ} → Filled lines n vs buffer (Ok m) buffer'
     → (tried lines ≡ Passed) × (m ≡ n) × (buffer' ≡ written vs buffer)
 filled-counted {lines} {n} {m} {vs} {buffer} {buffer'} f = go (tried lines) f.answer f.result
   where
@@ -279,20 +264,20 @@ filled-counted {lines} {n} {m} {vs} {buffer} {buffer'} f = go (tried lines) f.an
     go (Refused number) e b = let z : ◌≡◌ {A = ℕ} 0 1 = cc in absurd (omega arith)
 
 -- a call that answered Count m wrote m entries to the buffer's front
-pub filled-entries : {lines : List Line} {n m : ℕ} {vs buffer buffer' : List ℕ} → Filled lines n vs buffer (Counted.Count m) buffer' → (k : ℕ) → k ≡ length vs
+pub filled-entries : {lines : List Line} {n m : ℕ} {vs buffer buffer' : List ℕ} → Filled lines n vs buffer (Ok m) buffer' → (k : ℕ) → k ≡ length vs
     → (take k buffer' ≡ vs) × (k ≤ length buffer')
 filled-entries {vs = vs} {buffer = buffer} f k e =
     rw ((filled-counted f).2, e) (take_at vs (drop (length vs) buffer) (length vs) refl, rw length-append (omega arith))
 
-pub filled-front : {lines : List Line} {m : ℕ} {vs buffer buffer' : List ℕ} → Filled lines (length vs) vs buffer (Counted.Count m) buffer'
+pub filled-front : {lines : List Line} {m : ℕ} {vs buffer buffer' : List ℕ} → Filled lines (length vs) vs buffer (Ok m) buffer'
     → (take m buffer' ≡ vs) × (m ≤ length buffer')
 filled-front {m = m} f = filled-entries f m (filled-counted f).1
 
-pub filled-number : {lines : List Line} {n m : ℕ} {vs buffer buffer' : List ℕ} → Filled lines n vs buffer (Counted.Refused m) buffer'
-    → (tried lines ≡ Refused m) × (buffer' ≡ buffer)
-filled-number {lines} {n} {m} {vs} {buffer} {buffer'} f = go (tried lines) f.answer f.result
+pub filled-number : {lines : List Line} {n : ℕ} {e : Refusal} {vs buffer buffer' : List ℕ} → Filled lines n vs buffer (Err e) buffer'
+    → (tried lines ≡ Refused (number_of e)) × (buffer' ≡ buffer)
+filled-number {lines} {n} {e} {vs} {buffer} {buffer'} f = go (tried lines) f.answer f.result
   where
-    go : (k : Checked) → refuses m ≡ decided k (gives n) refuses → buffer' ≡ decided k (written vs buffer) (λ number. buffer)
-        → (k ≡ Refused m) × (buffer' ≡ buffer)
-    go Passed e b = let z : ◌≡◌ {A = ℕ} 0 1 = cc in absurd (omega arith)
-    go (Refused number) e b = (cc, b)
+    go : (k : Checked) → refuses (number_of e) ≡ decided k (gives n) refuses → buffer' ≡ decided k (written vs buffer) (λ number. buffer)
+        → (k ≡ Refused (number_of e)) × (buffer' ≡ buffer)
+    go Passed x b = let z : ◌≡◌ {A = ℕ} 0 1 = cc in absurd (omega arith)
+    go (Refused number) x b = (cc, b)

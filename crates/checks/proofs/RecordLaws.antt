@@ -7,11 +7,8 @@ use lib.ListN.{length}
 use lib.Dec.{ltb}
 use borrow.Author.Tests.{eqb-false, ltb-false, ne_eqb, le-ltb}
 use Rattle.words.specs.Words.{most_letters}
-use Rattle.checks.specs.declared.Checked.{Checked}
-use Rattle.checks.specs.declared.Checked.TheVariants.{Passed}
-use Rattle.checks.specs.Lines.{Line, ◌when◌, tried, record_lines, Accepted}
-use Rattle.checks.specs.Doors.{SaidAt}
-use Rattle.checks.proofs.LineLaws.{IsPassed, passed, unmet, all_pass}
+use Rattle.checks.specs.Lines.{Line, ◌when◌, Passed, tried, record_lines, Accepted}
+use Rattle.checks.proofs.LineLaws.{unmet, all_pass}
 
 pub accepted : (w : List ℕ) → tried (record_lines w) ≡ Passed → Accepted w
 accepted w e =
@@ -20,10 +17,6 @@ accepted w e =
 
 pub record-passes : (w : List ℕ) → Accepted w → tried (record_lines w) ≡ Passed
 record-passes w a = all_pass (record_lines w) (ne_eqb (length w) 0 (λ z. omega (arith, a.nonempty)), (le-ltb most_letters (length w) a.short, search))
-
--- a record that is let in at a door
-pub let-in : {door : List Line} {w : List ℕ} {k : Checked} → SaidAt door w k → IsPassed k → Accepted w
-let-in {door} s h = s.guards (passed door s.says h)
 
 pub enough : (number entries needed : ℕ) → tried (number when ltb entries needed ∷ []) ≡ Passed → needed ≤ entries
 enough number entries needed e = ltb-false entries needed (unmet (number when ltb entries needed ∷ []) e).0

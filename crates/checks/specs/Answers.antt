@@ -1,24 +1,37 @@
 -- DEFINITIONS. What an answer says, by paper 01's number and values for each of its cases, and what a call that fills a result buffer answers and leaves in it.
 -- Every promise of an answer that is an enum is about what it says.
-use Rattle.std.specs.Prelude.{◌≡◌, List, ℕ, zero, suc}
+use Rattle.std.specs.Prelude.{◌≡◌, List, ℕ, zero, suc, Result, Ok, Err}
 use Rattle.buffers.specs.Buffers.{written}
-use Rattle.checks.specs.Lines.{Line, decided, ◌unless◌then◌}
-use Rattle.checks.specs.declared.Checked.{Checked}
-use Rattle.checks.specs.declared.Checked.TheVariants.{Passed, Refused}
-use Rattle.checks.specs.declared.Counted.{Counted}
+use Rattle.checks.specs.Lines.{Line, Checked, Passed, Refused, decided, ◌unless◌then◌}
+use Rattle.checks.specs.declared.refusals.Refusal.{Refusal}
+use Rattle.checks.specs.declared.refusals.Refusal.TheVariants.{Empty, TooLong, WorkTooShort, ResultTooShort, BadRange, BadStart, FaultyPairs, NoSuchPart, Marked, FaultyRecordEnds}
 
--- the number of a case, 0 for none
-abbrev pub number_of : Checked → ℕ
-number_of k = decided k 0 (λ number. number)
+-- the number that the table gives a line
+abbrev pub number_of : Refusal → ℕ
+number_of Empty = 1
+number_of TooLong = 2
+number_of WorkTooShort = 3
+number_of ResultTooShort = 4
+number_of BadRange = 5
+number_of BadStart = 6
+number_of FaultyPairs = 7
+number_of NoSuchPart = 8
+number_of Marked = 9
+number_of FaultyRecordEnds = 10
+
+-- what an answer says of the lines
+abbrev pub outcome : {T : Type 0} → Result T Refusal → Checked
+outcome (Ok x) = Passed
+outcome (Err refusal) = Refused (number_of refusal)
+
+-- the number of a check, 0 for none
+abbrev pub checked_number : Checked → ℕ
+checked_number k = decided k 0 (λ number. number)
 
 -- what a number that a caller is given says: "0 for a result"
 abbrev pub numbered : ℕ → Checked
 numbered zero = Passed
 numbered (suc number) = Refused (suc number)
-
--- the first refusal of two
-abbrev pub first_of : Checked → Checked → Checked
-first_of k next = decided k next Refused
 
 -- "An answer is a result or a refusal number, never both": the values of the result, or the number
 pub data Says (A : Type 0) : Type 0 where
@@ -35,13 +48,17 @@ abbrev pub values_or : {A : Type 0} → A → Says A → A
 values_or none (gives values) = values
 values_or none (refuses number) = none
 
+-- what an answer says, its values read off the result
+abbrev pub says_by : {T A : Type 0} → (T → A) → Result T Refusal → Says A
+says_by values (Ok x) = gives (values x)
+says_by values (Err refusal) = refuses (number_of refusal)
+
 -- the answer of a cut, a table or a list: the number of what was found
-abbrev pub count_says : Counted → Says ℕ
-count_says (Counted.Count n) = gives n
-count_says (Counted.Refused number) = refuses number
+abbrev pub count_says : Result ℕ Refusal → Says ℕ
+count_says r = says_by (λ n. n) r
 
 -- a call that fills a result buffer with vs and answers n: "An accepted cut or start table writes exactly the answer's entries, from entry 0"; "Result buffers
 -- are untouched by a refusal."
-pub record Filled (lines : List Line) (n : ℕ) (vs buffer : List ℕ) (r : Counted) (buffer' : List ℕ) : Type 0 where
+pub record Filled (lines : List Line) (n : ℕ) (vs buffer : List ℕ) (r : Result ℕ Refusal) (buffer' : List ℕ) : Type 0 where
   pub answer : count_says r ≡ gives n unless lines then refuses
   pub result : buffer' ≡ written vs buffer unless lines then (λ number. buffer)

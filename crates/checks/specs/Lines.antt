@@ -5,14 +5,17 @@ use Rattle.words.specs.Words.{most_letters}
 use Rattle.words.specs.Separated.{has_mark}
 use Rattle.conditions.specs.Conditions.{are_faulty_record_ends}
 use Rattle.pairs.specs.PairedList.{are_faulty_pairs}
-use Rattle.checks.specs.declared.Checked.{Checked}
-use Rattle.checks.specs.declared.Checked.TheVariants.{Passed, Refused}
 
 infix 70 ◌when◌
 infix 5 ◌unless◌then◌
 -- a line of the table: its number, and whether its condition is met
 pub data Line : Type 0 where
   ◌when◌ : ℕ → Bool → Line
+
+-- what the lines of a call say: passed, or the number of the line that is met
+pub data Checked : Type 0 where
+  Passed : Checked
+  Refused : ℕ → Checked
 
 -- "A line of the table is tried only when the lines above it have passed, and is met only under its condition."
 unfoldable pub tried : List Line → Checked

@@ -1,10 +1,10 @@
 use Rattle.checks.specs.Lines.{tried}
-use Rattle.checks.proofs.Checked.when.Goals as goal
+use Rattle.checks.proofs.refusals.Refusal.when.Goals as goal
 
 pub returns-then-met : goal.returns-then-met
 unfolding tried
 returns-then-met c = rw c.if-met.true
 
-pub returns : goal.returns
+pub returns-else-met : goal.returns-else-met
 unfolding tried
-returns c = rw c.if-met.false
+returns-else-met c = rw c.if-met.false
