@@ -13,8 +13,7 @@ use Rattle.theory.specs.Icfl.BorderLength.{step_is}
 use Rattle.theory.specs.Icfl.Failing.{failing-is}
 use Rattle.theory.specs.Icfl.IcflFactors.{prefix-positive}
 use Rattle.checks.specs.Answers.{gives}
-use Rattle.extension.specs.declared.Extension.{Extension}
-use Rattle.extension.specs.Extension.{test_says, verdict_as, verdict_of}
+use Rattle.extension.specs.Extension.{verdict_as, verdict_of}
 
 pub record Fails (v : List ℕ) (l p r : ℕ) : Type 0 where
   pub not : ¬ InverseLyndon v
@@ -47,17 +46,10 @@ fails-told v l p r s e = go (is_inverse_lyndon v) refl e
           upto = omega (arith, (failing-is v s n).inside);
         }
 
--- a says of no failing prefix
-abbrev pub NoneFails : Extension → Type 0
-NoneFails a = (l p r : ℕ) → a ≡ Extension.Failing l p r → ⊥
-
-pub holds-told : (v : List ℕ) (a : Extension) → NoneFails a → test_says a ≡ gives (verdict_of v) → InverseLyndon v
+pub holds-told : (v : List ℕ) → gives [] ≡ gives (verdict_of v) → InverseLyndon v
 unfolding verdict_of
-holds-told v a h e = go (is_inverse_lyndon v) refl a h e
+holds-told v e = go (is_inverse_lyndon v) refl e
   where
-    go : (t : Bool) → is_inverse_lyndon v ≡ t → (a : Extension) → NoneFails a
-        → test_says a ≡ gives (verdict_as t (failing_length v) (prefix_length v) (border_length v)) → InverseLyndon v
-    go true d a h z = decides-true (inverse-lyndon-test v) d
-    go false d Extension.InverseLyndon h z = let b : ◌≡◌ {A = ℕ} 0 1 = cc in absurd (omega arith)
-    go false d (Extension.Refused m) h z = let b : ◌≡◌ {A = ℕ} 0 1 = cc in absurd (omega arith)
-    go false d (Extension.Failing l p r) h z = absurd (h l p r refl)
+    go : (t : Bool) → is_inverse_lyndon v ≡ t → gives [] ≡ gives (verdict_as t (failing_length v) (prefix_length v) (border_length v)) → InverseLyndon v
+    go true d z = decides-true (inverse-lyndon-test v) d
+    go false d z = let b : ◌≡◌ {A = ℕ} 0 1 = cc in absurd (omega arith)

@@ -1,22 +1,28 @@
 -- DEFINITIONS. What the test answers and leaves in the work buffer (ExtensionFound), and what its inner functions ask and promise.
-use Rattle.std.specs.Prelude.{◌≡◌, Bool, true, false, List, [], ◌∷◌, ◌++◌, ℕ, ◌-◌, ◌≤◌, ◌<◌, length, drop, get_or}
+use Rattle.std.specs.Prelude.{◌≡◌, Result, Option, None, Some, Bool, true, false, List, [], ◌∷◌, ◌++◌, ℕ, ◌-◌, ◌≤◌, ◌<◌, length, drop, get_or}
 use Rattle.words.specs.Words.{most_letters, is_inverse_lyndon}
 use Rattle.words.specs.Factorizations.{failing_length, prefix_length, border_length}
 use Rattle.theory.specs.Scan.Scanned.{Scanned}
 use Rattle.theory.specs.Scan.ScannedBorders.{Table}
 use Rattle.buffers.specs.Buffers.{cleared}
 use Rattle.checks.specs.Lines.{Line, ◌unless◌then◌, work_line, mark_line}
-use Rattle.checks.specs.Answers.{Says, gives, refuses}
+use Rattle.checks.specs.declared.refusals.Refusal.{Refusal}
+use Rattle.checks.specs.Answers.{Says, gives, refuses, says_by}
 use Rattle.scan.specs.State.{Rests}
 use Rattle.scan.specs.declared.Scan.{Scan}
 use Rattle.extension.specs.declared.Extension.{Extension}
-use Rattle.extension.specs.declared.Extension.TheVariants.{InverseLyndon, Failing, Refused}
+
+-- the type of the test's answer
+abbrev pub TestAnswer : Type 0
+TestAnswer = Result (Option Extension) Refusal
 
 -- 'The test answers "falling", or "failing" with L, |p| and |r|.': what each case says, with no values for "falling"
-abbrev pub test_says : Extension → Says (List ℕ)
-test_says InverseLyndon = gives []
-test_says (Failing failing prefix border) = gives (failing ∷ prefix ∷ border ∷ [])
-test_says (Refused number) = refuses number
+abbrev pub extension_values : Option Extension → List ℕ
+extension_values None = []
+extension_values (Some x) = x.failing ∷ x.prefix ∷ x.border ∷ []
+
+abbrev pub test_says : TestAnswer → Says (List ℕ)
+test_says r = says_by extension_values r
 
 abbrev pub verdict_as : Bool → ℕ → ℕ → ℕ → List ℕ
 verdict_as true failing prefix border = []
@@ -32,7 +38,7 @@ extension_lines w entries = work_line entries (length w) ∷ mark_line w ∷ []
 
 -- the call's promise, by the lines at its door: its answer; and "after an accepted .. test .. the entries counted in line 3 are zero and later ones
 -- unchanged", untouched by a refusal
-pub record ExtensionFound (door : List Line) (w work : List ℕ) (r : Extension) (work' : List ℕ) : Type 0 where
+pub record ExtensionFound (door : List Line) (w work : List ℕ) (r : TestAnswer) (work' : List ℕ) : Type 0 where
   pub answer : test_says r ≡ gives (verdict_of w) unless door ++ extension_lines w (length work) then refuses
   pub buffer : work' ≡ cleared (length w) work unless door ++ extension_lines w (length work) then (λ number. work)
 
@@ -57,6 +63,6 @@ pub record Ready (w table : List ℕ) (n b : ℕ) : Type 0 where
   pub above : get_or w b 0 < get_or w n 0
   pub borders : Table w table (n - 1)
 
-pub record Verdict (w work : List ℕ) (r : Extension) (work' : List ℕ) : Type 0 where
-  pub answer : test_says r ≡ gives (verdict_of w)
+pub record Verdict (w work : List ℕ) (r : Option Extension) (work' : List ℕ) : Type 0 where
+  pub answer : extension_values r ≡ verdict_of w
   pub kept : drop (length w) work' ≡ drop (length w) work

@@ -2,25 +2,21 @@
 //! which border?
 #![tactic(auto)]
 
-ghost use Rattle.std.specs.Prelude.{◌≡◌, []};
+ghost use Rattle.std.specs.Prelude.{[]};
 ghost use Rattle.theory.specs.Scan.ScannedBorders.{ShortestBorder};
-ghost use Rattle.checks.specs.Lines.{tried, record_lines, Accepted};
-ghost use Rattle.extension.specs.Extension.{extension_lines, ExtensionFound, TestRoom, Scanning, Ready, Verdict};
+ghost use Rattle.checks.specs.Lines.{record_lines};
+ghost use Rattle.extension.specs.Extension.{ExtensionFound, TestRoom, Scanning, Ready, Verdict};
 
-use checks::Checked;
+use checks::{Record, Refusal};
 use scan::Scan;
 
-/// What the test answers: inverse Lyndon (paper 01: falling); failing, with L, |p| and |r|; or the number of the
-/// refusal.
-#[derive(Drop)]
-pub enum Extension {
-    InverseLyndon,
-    Failing {
-        failing: usize,
-        prefix: usize,
-        border: usize,
-    },
-    Refused(u8),
+/// How a word fails to be inverse Lyndon: L, the length of the shortest failing prefix, and |p| and |r|, which its next
+/// letter follows.
+#[derive(Clone, Copy, Drop)]
+pub struct Extension {
+    pub failing: usize,
+    pub prefix: usize,
+    pub border: usize,
 }
 
 // Scans the word, and leaves in `work` the longest border of each prefix that it has passed.
@@ -61,9 +57,9 @@ fn shortest_border(word: &[u8], table: &[u16], at: usize, longest: usize) -> usi
     border
 }
 
-/// The verdict on a word that was accepted; the separator is a letter as any other here, and nothing is refused. It
-/// uses the first entries of `work`, as many as the word has letters.
-pub fn extension_of(word: &[u8], work: &mut [u16]) -> Extension
+/// The verdict on a word: nothing for an inverse Lyndon one (paper 01: a falling one), otherwise how it fails. The
+/// separator is a letter as any other here. It uses the first entries of `work`, as many as the word has letters.
+pub fn extension_of(word: &[u8], work: &mut [u16]) -> Option<Extension>
     requires { TestRoom word.now work.old }
     ensures { Verdict word.now work.old result work.new }
 {
@@ -71,49 +67,34 @@ pub fn extension_of(word: &[u8], work: &mut [u16]) -> Extension
     let at = s.length;
     let longest = s.border;
     if word.len() <= at {
-        return Extension::InverseLyndon;
+        return None;
     }
     let border = shortest_border(word, work, at, longest);
-    Extension::Failing {
+    Some(Extension {
         failing: at + 1,
         prefix: at - border,
         border,
-    }
+    })
 }
 
-// Lines 3 and 9. The letters are looked at only past line 3.
-fn admit(word: &[u8], entries: usize) -> Checked
-    ensures { result ≡ tried (extension_lines word.now entries) }
+/// The test of an accepted record: the call's own lines, 3 and 9, and its work. The letters are looked at only past
+/// line 3.
+pub fn test(record: Record, work: &mut [u16]) -> Result<Option<Extension>, Refusal>
+    ensures { ExtensionFound [] record.entry.letters.now work.old result work.new }
 {
-    let worked = checks::check_work(entries, word.len());
-    let Checked::Passed = worked else {
-        return worked;
-    };
-    checks::check_marks(word)
-}
-
-/// The test of an accepted record: the call's own lines, 3 and 9, and its work.
-pub fn test(word: &[u8], work: &mut [u16]) -> Extension
-    requires { Accepted word.now }
-    ensures { ExtensionFound [] word.now work.old result work.new }
-{
-    let admitted = admit(word, work.len());
-    let Checked::Passed = admitted else {
-        return Extension::Refused(admitted.number());
-    };
+    let word = record.letters;
+    checks::check_work(work.len(), word.len())?;
+    checks::check_marks(word)?;
     let found = extension_of(word, work);
     buffers::clear(work, word.len());
-    found
+    Ok(found)
 }
 
 /// The test. Refusals 1, 2, 3, 9; after a result the first entries of `work`, as many as the word has letters, are
 /// zero, and a refusal leaves it as it was.
-pub fn find_extension(word: &[u8], work: &mut [u16]) -> Extension
+pub fn find_extension(word: &[u8], work: &mut [u16]) -> Result<Option<Extension>, Refusal>
     ensures { ExtensionFound (record_lines word.now) word.now work.old result work.new }
 {
-    let recorded = checks::check_record(word);
-    let Checked::Passed = recorded else {
-        return Extension::Refused(recorded.number());
-    };
-    test(word, work)
+    let record = Record::admit(word)?;
+    test(record, work)
 }
