@@ -11,16 +11,15 @@ use lib.ListN.{length, take-append-drop, length-drop}
 use lib.Dec.{eqb}
 use lib.Seq.{slice, take_all, length-slice}
 use borrow.Author.Tests.{le-ltb, eq-eqb}
+use Rattle.std.specs.Prelude.{Result}
 use Rattle.words.specs.Separated.{separated_icfl_ends}
 use Rattle.words.specs.Pairs.{separated_pairs}
 use Rattle.theory.specs.Places.EndsRise.{rises-few}
 use Rattle.theory.specs.Stretches.Factors.{separated-icfl-ends-rise}
 use Rattle.conditions.specs.Conditions.{last_of, falls, are_faulty_record_ends}
-use Rattle.checks.specs.Lines.{Door, tried, result_line}
-use Rattle.checks.specs.Answers.{number_of, Says, refuses, checked, count_says}
-use Rattle.checks.specs.declared.Checked.{Checked}
-use Rattle.checks.specs.declared.Checked.TheVariants.{Passed, Refused}
-use Rattle.checks.specs.declared.Counted.{Counted}
+use Rattle.checks.specs.Lines.{Door, tried, result_line, Checked, Passed, Refused}
+use Rattle.checks.specs.Answers.{checked_number, Says, refuses, checked, count_says}
+use Rattle.checks.specs.declared.refusals.Refusal.{Refusal}
 use Rattle.checks.proofs.LineLaws.{not-both, all_pass, first_alone, said, every-joined, number-tested, unmet}
 use Rattle.conditions.proofs.RecordEndsLaws.{Climbs, climbs-head, climbs-tail, climbs-most, listed}
 use Rattle.icfl.specs.Icfl.{icfl_lines, icfl_answer, IcflDone}
@@ -60,7 +59,7 @@ single-fits door no-four w work pairs l x =
     never (sym alone ∙ (sym split ∙ (sym (said _ (tried (door w ++ icfl_lines w (length work) (length pairs))) refl) ∙ ap checked x)))
     (number-tested (λ m. not (eqb m 4)) lines (every-joined (λ m. not (eqb m 4)) (door w) (work_lines w (length work)) (no-four w) refl))
   where
-    never : {k : Checked} → k ≡ Refused 4 → ((k ≡ Passed) ⊎ (not (eqb (number_of k) 4) ≡ true)) → ⊥
+    never : {k : Checked} → k ≡ Refused 4 → ((k ≡ Passed) ⊎ (not (eqb (checked_number k) 4) ≡ true)) → ⊥
     never e (inl p) = not-both e p
     never e (inr t) = true≢false (sym (rw e at t))
 
@@ -110,7 +109,7 @@ module _ (door : Door) (w work pairs : List ℕ) where
 
   pub single-batch : {work' pairs' : List ℕ} {r : Batch} → BatchDone door w (length w ∷ []) work pairs r work' pairs'
       → (batch_says r ≡ batch_with 0 (icfl_answer (door w) w work pairs ∷ []))
-      × ((a : Counted) → count_says a ≡ icfl_answer (door w) w work pairs → IcflDone (door w) w work pairs a work' pairs')
+      × ((a : Result ℕ Refusal) → count_says a ≡ icfl_answer (door w) w work pairs → IcflDone (door w) w work pairs a work' pairs')
   unfolding cut_record
   single-batch d = (
     (rw (one_passes w) at d.answer) ∙ ap (λ (p : Progress). batch_with 0 p.answers) one-cut,
@@ -121,7 +120,7 @@ module _ (door : Door) (w work pairs : List ℕ) where
     },
   )
 
-  pub batch-single : {a : Counted} {work' pairs' : List ℕ} → IcflDone (door w) w work pairs a work' pairs' → (r : Batch)
+  pub batch-single : {a : Result ℕ Refusal} {work' pairs' : List ℕ} → IcflDone (door w) w work pairs a work' pairs' → (r : Batch)
       → batch_says r ≡ batch_with 0 (count_says a ∷ []) → BatchDone door w (length w ∷ []) work pairs r work' pairs'
   unfolding cut_record
   batch-single {a} d r e = record {

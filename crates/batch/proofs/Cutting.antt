@@ -7,6 +7,7 @@ use native.Mathlib.Numerals.{add-one}
 use native.Mathlib.Omega.{arith}
 use lib.ListN.{length, take, drop, get_or, set, replicate, length-append, length-drop, drop_of_length-le}
 use lib.Seq.{slice, drop-cons, set_at, length-take-le}
+use Rattle.std.specs.Prelude.{Result, Ok, Err}
 use Rattle.words.specs.Words.{most_letters}
 use Rattle.words.specs.Pairs.{separated_pairs}
 use Rattle.theory.specs.Places.EndsRise.{rises-few}
@@ -14,12 +15,10 @@ use Rattle.theory.specs.Stretches.Factors.{separated-icfl-ends-rise}
 use Rattle.theory.proofs.Stretches.RecordPairs.{pairs-entries}
 use Rattle.buffers.proofs.PartLaws.{part, part-is, rest, rest-is, rest_back}
 use Rattle.conditions.specs.Conditions.{most_records}
-use Rattle.checks.specs.Lines.{Line, Door, tried}
+use Rattle.checks.specs.Lines.{Line, Door, tried, Checked, Passed}
 use Rattle.checks.specs.Doors.{Guards}
-use Rattle.checks.specs.Answers.{number_of, Says, gives, count_says}
-use Rattle.checks.specs.declared.Checked.{Checked}
-use Rattle.checks.specs.declared.Checked.TheVariants.{Passed}
-use Rattle.checks.specs.declared.Counted.{Counted}
+use Rattle.checks.specs.Answers.{checked_number, Says, gives, count_says}
+use Rattle.checks.specs.declared.refusals.Refusal.{Refusal}
 use Rattle.checks.proofs.LineLaws.{IsRefused, refused, both-passed, unmet, filled-counted}
 use Rattle.conditions.proofs.RecordEndsLaws.{Climbs, climbs-head, climbs-tail, climbs-most, listed}
 use Rattle.icfl.specs.Icfl.{icfl_lines, IcflDone}
@@ -30,9 +29,9 @@ use Rattle.batch.specs.declared.Place.{Place}
 
 -- before any record
 abbrev pub blank_with : ℕ → Batch
-blank_with number = record { refusal = number; places = replicate most_records (record { answer = Counted.Count 0 }) }
+blank_with number = record { refusal = number; places = replicate most_records (record { answer = Ok 0 }) }
 
-pub batch-refused : (door : Door) (bytes es work pairs : List ℕ) {k : Checked} {m : ℕ} → k ≡ tried (batch_lines es (length bytes)) → IsRefused k → m ≡ number_of k
+pub batch-refused : (door : Door) (bytes es work pairs : List ℕ) {k : Checked} {m : ℕ} → k ≡ tried (batch_lines es (length bytes)) → IsRefused k → m ≡ checked_number k
     → BatchDone door bytes es work pairs (blank_with m) work pairs
 batch-refused door bytes es work pairs e h z =
     let lines = batch_lines es (length bytes) in
@@ -45,7 +44,7 @@ batch-refused door bytes es work pairs e h z =
 -- ---- the loop
 
 -- an answer stored in its place
-abbrev pub placed_at : ℕ → Counted → Batch → Batch
+abbrev pub placed_at : ℕ → Result ℕ Refusal → Batch → Batch
 placed_at i a r = record { refusal = r.refusal; places = set r.places i (record { answer = a }) }
 
 map-set : {A B : Type 0} (f : A → B) (xs : List A) (i : ℕ) (y : A) → map f (set xs i y) ≡ set (map f xs) i (f y)
@@ -54,7 +53,7 @@ map-set f (x ∷ xs) zero y = refl
 map-set {B = B} f (x ∷ xs) (suc i) y = ap (λ (zs : List B). f x ∷ zs) (map-set f xs i y)
 
 -- one more answer takes the first place past the others
-placed-next : (answers : List (Says ℕ)) (a : Counted) (r : Batch) {i : ℕ} → batch_says r ≡ batch_with 0 answers → length answers ≡ i → i < most_records
+placed-next : (answers : List (Says ℕ)) (a : Result ℕ Refusal) (r : Batch) {i : ℕ} → batch_says r ≡ batch_with 0 answers → length answers ≡ i → i < most_records
     → batch_says (placed_at i a r) ≡ batch_with 0 (answers ++ count_says a ∷ [])
 placed-next answers a r {i} e n l =
     let m : most_records - length answers ≡ suc (most_records - length (answers ++ count_says a ∷ [])) = rw (length-append answers (count_says a ∷ [])) (omega arith) in
@@ -70,18 +69,18 @@ placed-next answers a r {i} e n l =
     ∙ ap (λ (t : List (Says ℕ)). (0, t)) (stored ∙ sym (append_assoc answers (count_says a ∷ []) rest))
 
 -- an answer uses no more entries than the buffer has
-used-fits : {door : List Line} {w work left : List ℕ} {a : Counted} {work₁ left₁ : List ℕ} → IcflDone door w work left a work₁ left₁ → used_entries (count_says a) ≤ length left₁
-used-fits {w} {left = left} {a = Counted.Count n} d =
+used-fits : {door : List Line} {w work left : List ℕ} {a : Result ℕ Refusal} {work₁ left₁ : List ℕ} → IcflDone door w work left a work₁ left₁ → used_entries (count_says a) ≤ length left₁
+used-fits {w} {left = left} {a = Ok n} d =
     let f = filled-counted (icfl-filled d) in
     omega (arith, f.1, ap length f.2, length-append (separated_pairs w) (drop (length (separated_pairs w)) left), pairs-entries w)
-used-fits {a = Counted.Refused number} d = omega arith
+used-fits {a = Err number} d = omega arith
 
-pub used-few : {door : List Line} {w work left : List ℕ} {a : Counted} {work₁ left₁ : List ℕ} → Guards door w → IcflDone door w work left a work₁ left₁
+pub used-few : {door : List Line} {w work left : List ℕ} {a : Result ℕ Refusal} {work₁ left₁ : List ℕ} → Guards door w → IcflDone door w work left a work₁ left₁
     → used_entries (count_says a) ≤ 2 * most_letters
-used-few {door} {w} {work} {left} {a = Counted.Count n} g d =
+used-few {door} {w} {work} {left} {a = Ok n} g d =
     let f = filled-counted (icfl-filled d) in
     omega (arith, f.1, (g (both-passed door (icfl_lines w (length work) (length left)) f.0).0).short, rises-few (separated-icfl-ends-rise w))
-used-few {a = Counted.Refused number} g d = omega arith
+used-few {a = Err number} g d = omega arith
 
 pub record Cutting (door : Door) (bytes es work₀ pairs₀ work pairs : List ℕ) (r : Batch) (from used i : ℕ) : Type 0 where
   pub answers : List (Says ℕ)
@@ -115,7 +114,7 @@ module _ {door : Door} {bytes es work₀ pairs₀ work pairs : List ℕ} {r : Ba
       }
 
   -- the entries that the next answer uses are among those left
-  pub lent-room : {lines : List Line} {w : List ℕ} {a : Counted} {n : ℕ} {work₁ left₁ : List ℕ} → IcflDone lines w work (rest used pairs) a work₁ left₁
+  pub lent-room : {lines : List Line} {w : List ℕ} {a : Result ℕ Refusal} {n : ℕ} {work₁ left₁ : List ℕ} → IcflDone lines w work (rest used pairs) a work₁ left₁
       → n ≡ used_entries (count_says a)
       → length left₁ ≡ length (rest used pairs) → used + n ≤ length pairs
   lent-room d z k = omega (arith, z, k, used-fits d, ap length (rest-is used pairs), length-drop used pairs, g.room)
@@ -134,7 +133,7 @@ module _ {door : Door} {bytes es work₀ pairs₀ work pairs : List ℕ} {r : Ba
     pub record-end : get_or es i 0 ≤ length bytes
     record-end = climbs-most (climbs-tail climbs-on)
 
-    pub cutting-on : {a : Counted} {work₁ left₁ : List ℕ}
+    pub cutting-on : {a : Result ℕ Refusal} {work₁ left₁ : List ℕ}
         → (let w = slice from (get_or es i 0) bytes in IcflDone (door w) w work (drop used pairs) a work₁ left₁)
         → Cutting door bytes es work₀ pairs₀ work₁ (take used pairs ++ left₁) (placed_at i a r) (get_or es i 0) (used + used_entries (count_says a)) (i + 1)
     unfolding records_from cut_records cut_record
@@ -151,7 +150,7 @@ module _ {door : Door} {bytes es work₀ pairs₀ work pairs : List ℕ} {r : Ba
     }
 
     -- the same, as the code lends the record and what is left of the result buffer
-    pub lent-on : {a : Counted} {n : ℕ} {work₁ left₁ : List ℕ}
+    pub lent-on : {a : Result ℕ Refusal} {n : ℕ} {work₁ left₁ : List ℕ}
         → (let w = part from (get_or es i 0) bytes in IcflDone (door w) w work (rest used pairs) a work₁ left₁) → n ≡ used_entries (count_says a)
         → Cutting door bytes es work₀ pairs₀ work₁ (take used pairs ++ (left₁ ++ drop (length pairs - used) (drop used pairs))) (placed_at i a r) (get_or es i 0) (used + n)
         (i + 1)

@@ -14,9 +14,7 @@ use Rattle.words.specs.Pairs.{separated_pairs}
 use Rattle.theory.proofs.Stretches.RecordPairs.{pairs-entries}
 use Rattle.buffers.specs.Buffers.{cleared, written}
 use Rattle.buffers.proofs.BufferLaws.{cleared-twice}
-use Rattle.checks.specs.Lines.{Line, Door, tried, decided}
-use Rattle.checks.specs.declared.Checked.{Checked}
-use Rattle.checks.specs.declared.Checked.TheVariants.{Passed, Refused}
+use Rattle.checks.specs.Lines.{Line, Door, tried, decided, Checked, Passed, Refused}
 use Rattle.checks.specs.Answers.{Says, gives, refuses}
 use Rattle.icfl.specs.Icfl.{icfl_lines, work_after, icfl_answer, icfl_work}
 use Rattle.batch.specs.Batch.{Progress, used_entries, cut_record, cut_records, records_from, uncut, batch_of}

@@ -8,8 +8,7 @@ use lib.ListN.{length}
 use Rattle.words.specs.Separated.{separated_cfl_in_ends}
 use Rattle.theory.specs.Places.EndsRise.{rises-few}
 use Rattle.theory.proofs.Stretches.Factors.{separated-cfl-in-ends-rise}
-use Rattle.checks.specs.Lines.{tried}
-use Rattle.checks.specs.declared.Checked.TheVariants.{Passed}
+use Rattle.checks.specs.Lines.{tried, Passed}
 use Rattle.checks.proofs.LineLaws.{all_pass}
 use Rattle.cfl.specs.CflIn.{cfl_in_lines}
 

@@ -6,8 +6,7 @@ use native.Mathlib.Omega.{arith}
 use lib.ListN.{length}
 use lib.Dec.{leb, ltb}
 use borrow.Author.Tests.{ltb-false, leb-false, le-ltb, lt-leb}
-use Rattle.checks.specs.declared.Checked.TheVariants.{Passed}
-use Rattle.checks.specs.Lines.{tried}
+use Rattle.checks.specs.Lines.{tried, Passed}
 use Rattle.conditions.proofs.ConditionLaws.{either-unmet}
 use Rattle.checks.proofs.LineLaws.{unmet, all_pass}
 use Rattle.compare.specs.Compare.{compare_lines}

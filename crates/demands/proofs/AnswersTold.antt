@@ -3,10 +3,8 @@ use Rattle.std.specs.Prelude.{◌≡◌, refl, Bool, true, false, List, ℕ, zer
 use Rattle.std.proofs.Common.{ap, sym, ◌∙◌, take-append-drop, ne_eqb}
 use Rattle.std.proofs.Math.Decide.{ℕ_discrete}
 use Rattle.buffers.specs.Buffers.{cleared}
-use Rattle.checks.specs.Lines.{decided}
-use Rattle.checks.specs.Answers.{number_of, numbered, Says, gives, refuses, checked}
-use Rattle.checks.specs.declared.Checked.{Checked}
-use Rattle.checks.specs.declared.Checked.TheVariants.{Passed, Refused}
+use Rattle.checks.specs.Lines.{decided, Checked, Passed, Refused}
+use Rattle.checks.specs.Answers.{checked_number, numbered, Says, gives, refuses, checked}
 use Rattle.checks.proofs.LineLaws.{not-both}
 use Rattle.icfl.specs.Icfl.{work_after}
 use Rattle.compare.specs.declared.suffixes.Comparison.{Comparison}
@@ -40,14 +38,14 @@ module _ (k : Checked) {said : Checked} (e : said ≡ k) where
       go Passed e = passed e
       go (Refused number) e = by_4 number e (ℕ_discrete number 4)
 
-pub number-back : (n : ℕ) → number_of (numbered n) ≡ n
+pub number-back : (n : ℕ) → checked_number (numbered n) ≡ n
 number-back zero = refl
 number-back (suc n) = refl
 
 -- what says a refusal
 pub says-refused : {A : Type 0} (s : Says A) (number : ℕ) → checked s ≡ Refused number → s ≡ refuses number
 says-refused (gives values) number e = absurd (not-both e refl)
-says-refused (refuses m) number e = ap (λ (t : Checked). refuses (number_of t)) e
+says-refused (refuses m) number e = ap (λ (t : Checked). refuses (checked_number t)) e
 
 pub comparison-given : (r : Comparison) → checked (comparison_says r) ≡ Passed → comparison_says r ≡ gives (sign_of r, common_of r)
 comparison-given (Comparison.Order s n) e = refl

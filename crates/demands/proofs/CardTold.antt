@@ -1,12 +1,11 @@
 -- The card of calls that meet the demands and whose piece cut meets its promise: it meets its own (card-told).
-use Rattle.std.specs.Prelude.{◌≡◌, ℕ}
+use Rattle.std.specs.Prelude.{◌≡◌, ℕ, Result}
 use Rattle.std.proofs.Math.Path.{refl}
 use Rattle.std.proofs.Common.{ap, sym, ◌∙◌, arith}
 use mathlib.Core.List.{List, [], ◌∷◌}
-use Rattle.checks.specs.Lines.{tried}
-use Rattle.checks.specs.Answers.{number_of, numbered, Says}
-use Rattle.checks.specs.declared.Checked.TheVariants.{Passed}
-use Rattle.checks.specs.declared.Counted.{Counted}
+use Rattle.checks.specs.Lines.{tried, Passed}
+use Rattle.checks.specs.Answers.{checked_number, numbered, Says}
+use Rattle.checks.specs.declared.refusals.Refusal.{Refusal}
 use Rattle.icfl.specs.Icfl.{icfl_answer, icfl_result, IcflDone}
 use Rattle.batch.specs.declared.Batch.{Batch}
 use Rattle.batch.specs.Batch.{records_from, Progress, used_entries, cut_record, uncut, says_of, batch_says, places_of, batch_of, batch_with, BatchDone}
@@ -19,7 +18,7 @@ use Rattle.demands.proofs.CardHolds.{drop-behind}
 use Rattle.demands.proofs.AnswersTold.{answer-is, number-back}
 
 module _ (d : Doorway) (c : Calls) (all : Demands d c)
-    (cut : (w work pairs : List ℕ) (r : Counted) (work' pairs' : List ℕ) → c.PieceCut w work pairs r work' pairs'
+    (cut : (w work pairs : List ℕ) (r : Result ℕ Refusal) (work' pairs' : List ℕ) → c.PieceCut w work pairs r work' pairs'
     → IcflDone (d.door w) w work pairs r work' pairs')
   where
     -- its answers are those of the fold, one after another
@@ -53,8 +52,8 @@ module _ (d : Doorway) (c : Calls) (all : Demands d c)
         = λ p. answers-are (uncut work pairs) records (omega arith) (cards p).singly in
         record {
           answer = answer-is _ first (batch_says r) _ (λ number. batch_with number [])
-              (λ number e. batch-is r number [] (sym (number-back r.refusal) ∙ ap number_of e) (told.3 number e))
-              (λ p. batch-is r 0 (batch_of d.door bytes es work pairs).answers (sym (number-back r.refusal) ∙ ap number_of p)
+              (λ number e. batch-is r number [] (sym (number-back r.refusal) ∙ ap checked_number e) (told.3 number e))
+              (λ p. batch-is r 0 (batch_of d.door bytes es work pairs).answers (sym (number-back r.refusal) ∙ ap checked_number p)
               ((cards p).places ∙ ap places_of (are p ∙ sym (batch-answers d.door bytes es work pairs))));
           result = answer-is _ first pairs' _ (λ number. pairs) told.1
               (λ p. (rw (are p) at (cards p).left.result) ∙ sym (folded-pairs d.door (uncut work pairs) records (omega arith)));

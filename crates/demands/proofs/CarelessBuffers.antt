@@ -1,5 +1,5 @@
 -- THEOREMS about calls that are careless of the lent buffers where they give a result: demand 2 shuts each of them out.
-use Rattle.std.specs.Prelude.{◌≡◌, refl, ℕ, ◌-◌, ◌*◌, length, get_or, replicate}
+use Rattle.std.specs.Prelude.{◌≡◌, refl, ℕ, ◌-◌, ◌*◌, length, get_or, replicate, Ok}
 use Rattle.std.proofs.Common.{ap, arith}
 use mathlib.Core.List.{List, [], ◌∷◌, ◌++◌, flatten}
 use Rattle.words.specs.Words.{is_inverse_lyndon}
@@ -9,7 +9,7 @@ use Rattle.words.specs.Examples.{a}
 use Rattle.buffers.specs.Buffers.{cleared, written}
 use Rattle.checks.specs.Answers.{gives, refuses, count_says}
 use Rattle.checks.specs.Lines.{tried, ◌unless◌then◌}
-use Rattle.checks.specs.declared.Counted.{Counted}
+use Rattle.checks.specs.declared.refusals.Refusal.{Refusal}
 use Rattle.extension.specs.declared.Extension.{Extension}
 use Rattle.extension.specs.Extension.{test_says, verdict_of, extension_lines}
 use Rattle.fates.specs.Entries.{entries_of_breaks}
@@ -33,7 +33,7 @@ pub filled-up : ¬ Demand2 (cutter (Leaves
     (λ w pairs. separated_pairs w ++ replicate (length pairs - length (separated_pairs w)) 0) (λ w. cleared (3 * length w)))) (a ∷ [])
 unfolding tried separated_icfl_ends separated_pairs
 filled-up d =
-    let gave = d.pieces (replicate 3 0) (7 ∷ 7 ∷ 7 ∷ []) _ _ (Counted.Count 1) (refl, refl, refl) refl in
+    let gave = d.pieces (replicate 3 0) (7 ∷ 7 ∷ 7 ∷ []) _ _ (Ok 1) (refl, refl, refl) refl in
     let z : ◌≡◌ {A = ℕ} 0 7 = ap (λ (t : List ℕ). get_or t 2 0) gave.entries in
     omega arith
 
@@ -41,7 +41,7 @@ filled-up d =
 pub left-dirty : ¬ Demand2 (cutter (Leaves (λ w. written (separated_pairs w)) (λ w work. work))) (a ∷ [])
 unfolding tried separated_icfl_ends separated_pairs
 left-dirty d =
-    let gave = d.pieces (replicate 3 1) (0 ∷ 0 ∷ []) _ _ (Counted.Count 1) (refl, refl, refl) refl in
+    let gave = d.pieces (replicate 3 1) (0 ∷ 0 ∷ []) _ _ (Ok 1) (refl, refl, refl) refl in
     let z : ◌≡◌ {A = ℕ} 1 0 = ap (λ (t : List ℕ). get_or t 0 0) gave.zeros in
     omega arith
 
@@ -49,7 +49,7 @@ left-dirty d =
 pub all-cleared : ¬ Demand2 (cutter (Leaves (λ w. written (separated_pairs w)) (λ w work. replicate (length work) 0))) (a ∷ [])
 unfolding tried separated_icfl_ends separated_pairs
 all-cleared d =
-    let gave = d.pieces (replicate 4 1) (0 ∷ 0 ∷ []) _ _ (Counted.Count 1) (refl, refl, refl) refl in
+    let gave = d.pieces (replicate 4 1) (0 ∷ 0 ∷ []) _ _ (Ok 1) (refl, refl, refl) refl in
     let z : ◌≡◌ {A = ℕ} 0 1 = ap (λ (t : List ℕ). get_or t 3 0) gave.zeros in
     omega arith
 

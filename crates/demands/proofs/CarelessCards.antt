@@ -4,13 +4,13 @@ use Rattle.std.proofs.Common.{◌∙◌}
 use mathlib.Core.List.{List, [], ◌∷◌, ◌++◌}
 use Prim.Native.Nat.{ℕ}
 use native.Mathlib.Omega.{arith}
-use Rattle.std.specs.Prelude.{get_or, replicate}
+use Rattle.std.specs.Prelude.{get_or, replicate, Ok, Err}
 use Rattle.words.specs.Examples.{a}
 use Rattle.words.specs.Separated.{separated_icfl_ends}
 use Rattle.conditions.specs.Conditions.{are_faulty_record_ends}
 use Rattle.checks.specs.Lines.{tried}
 use Rattle.checks.specs.Answers.{numbered, Says, gives, refuses}
-use Rattle.checks.specs.declared.Counted.{Counted}
+use Rattle.checks.specs.declared.refusals.Refusal.{Refusal}
 use Rattle.checks.proofs.LineLaws.{not-both}
 use Rattle.batch.specs.declared.Batch.{Batch}
 use Rattle.batch.specs.declared.Place.{Place}
@@ -64,8 +64,8 @@ until_refused (refuses number ∷ answers) = refuses number ∷ []
 pub stops-at-refusal : ¬ Demands record_door (card_cutter (Answering until_refused))
 unfolding tried records_from cut_record cut_records separated_icfl_ends until_refused
 stops-at-refusal =
-    let refused : Place = record { answer = Counted.Refused 1 } in
-    other-second until_refused (record { refusal = 0; places = refused ∷ replicate 63 (record { answer = Counted.Count 0 }) }) (refl, refl, refl) refl
+    let refused : Place = record { answer = Err 1 } in
+    other-second until_refused (record { refusal = 0; places = refused ∷ replicate 63 (record { answer = Ok 0 }) }) (refl, refl, refl) refl
 
 -- one whose answers come against the card's order, the last record's first
 unfoldable pub turned : List (Says ℕ) → List (Says ℕ)
@@ -75,6 +75,6 @@ turned (s ∷ answers) = turned answers ++ s ∷ []
 pub last-answer-first : ¬ Demands record_door (card_cutter (Answering turned))
 unfolding tried records_from cut_record cut_records separated_icfl_ends turned
 last-answer-first =
-    let one : Place = record { answer = Counted.Count 1 } in
-    let refused : Place = record { answer = Counted.Refused 1 } in
-    other-second turned (record { refusal = 0; places = one ∷ refused ∷ replicate 62 (record { answer = Counted.Count 0 }) }) (refl, refl, refl) refl
+    let one : Place = record { answer = Ok 1 } in
+    let refused : Place = record { answer = Err 1 } in
+    other-second turned (record { refusal = 0; places = one ∷ refused ∷ replicate 62 (record { answer = Ok 0 }) }) (refl, refl, refl) refl

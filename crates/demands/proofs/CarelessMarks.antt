@@ -1,6 +1,6 @@
 -- THEOREMS about calls that are careless of marks (request 103): the demand that shuts each of them out. And over-marks:
 -- demand 3's first sentence would be false of whole pieces that hold marks.
-use Rattle.std.specs.Prelude.{◌≡◌, refl, true, false, List, [], ◌∷◌, ◌++◌, ℕ, ◌*◌, length, get_or, replicate, eqb, pos, negsuc}
+use Rattle.std.specs.Prelude.{◌≡◌, refl, true, false, List, [], ◌∷◌, ◌++◌, ℕ, ◌*◌, length, get_or, replicate, eqb, pos, negsuc, Result, Ok, Err}
 use Rattle.std.proofs.Common.{ap, sym, ◌∙◌, arith}
 use mathlib.Core.List.Memᴰ
 use Rattle.words.specs.Words.{is_inverse_lyndon, common_length_of, remainder, sign}
@@ -10,9 +10,8 @@ use Rattle.words.specs.Separated.{separator, separated_icfl_ends, has_mark}
 use Rattle.words.specs.Examples.{a}
 use Rattle.theory.specs.Orders.CommonWithin.{common-within-is, shared-unique}
 use Rattle.checks.specs.Answers.{gives, refuses}
-use Rattle.checks.specs.Lines.{Line, tried, ◌unless◌then◌, work_line, mark_line}
-use Rattle.checks.specs.declared.Checked.TheVariants.{Refused}
-use Rattle.checks.specs.declared.Counted.{Counted}
+use Rattle.checks.specs.Lines.{Line, tried, ◌unless◌then◌, work_line, mark_line, Refused}
+use Rattle.checks.specs.declared.refusals.Refusal.{Refusal}
 use Rattle.checks.proofs.LineLaws.{not-both}
 use Rattle.extension.specs.declared.Extension.{Extension}
 use Rattle.extension.specs.Extension.{test_says, verdict_of}
@@ -46,11 +45,11 @@ marks-as-one f x = other-ends f (m ∷ m ∷ a ∷ []) (omega arith) (omega arit
 
 -- the test's refusal passed up: 9 for a record that holds a mark
 pub cut-refused-by-9 : ¬ Demand1 record_door (cutter (Answering
-    (λ w work entries. Counted.Count (length (separated_icfl_ends w))
-    unless record_door.door w ++ work_line work (3 * length w) ∷ mark_line w ∷ [] then Counted.Refused)
+    (λ w work entries. Ok (length (separated_icfl_ends w))
+    unless record_door.door w ++ work_line work (3 * length w) ∷ mark_line w ∷ [] then Result ℕ Refusal.Refused)
     (λ w pairs. pairs)))
 unfolding tried separated_icfl_ends has_mark
-cut-refused-by-9 d = not-both refl (d.piece_cut (m ∷ []) (replicate 3 0) (0 ∷ 0 ∷ []) _ _ (Counted.Refused 9) (refl, refl, refl)).0.first
+cut-refused-by-9 d = not-both refl (d.piece_cut (m ∷ []) (replicate 3 0) (0 ∷ 0 ∷ []) _ _ (Err 9) (refl, refl, refl)).0.first
 
 -- ---- tests, by the lines that they try
 

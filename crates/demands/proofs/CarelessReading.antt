@@ -7,7 +7,7 @@ use Rattle.words.specs.Examples.{a, b}
 use Rattle.theory.specs.Statements.{here, there}
 use Rattle.pairs.specs.PairedList.{are_faulty_pairs, factor_begin}
 use Rattle.checks.specs.Lines.{tried, ◌unless◌then◌}
-use Rattle.checks.specs.Answers.{number_of}
+use Rattle.checks.specs.Answers.{checked_number}
 use Rattle.reading.specs.Factor.{factor_lines}
 use Rattle.summary.specs.declared.Summary.{Summary}
 use Rattle.summary.specs.Summary.{summary_lines, lengths_from, greatest, bands_of, summary_of, empty_summary}
@@ -19,7 +19,7 @@ use Rattle.demands.specs.OneCall.{Reader, Summing, reader, summer}
 
 abbrev Hands : (f : List ℕ → List ℕ → ℕ → List ℕ) (g : List ℕ → List ℕ) → Reader
 Hands f g w ps k part number =
-    (number ≡ number_of (tried (record_door.door w ++ factor_lines w ps k)))
+    (number ≡ checked_number (tried (record_door.door w ++ factor_lines w ps k)))
     × (part ≡ f w (ends_of ps) k unless record_door.door w ++ factor_lines w ps k then (λ e. g w))
 
 -- "the part with a refusal is empty": one that hands back the record

@@ -10,9 +10,8 @@ use Rattle.words.specs.declared.Fate.TheVariants.{Joined}
 use Rattle.words.specs.declared.Break.{Break}
 use Rattle.words.specs.Examples.{a, b}
 use Rattle.buffers.specs.Buffers.{cleared, written}
-use Rattle.checks.specs.Lines.{Line, tried, ◌unless◌then◌, result_line}
+use Rattle.checks.specs.Lines.{Line, tried, ◌unless◌then◌, result_line, Passed}
 use Rattle.checks.specs.Answers.{Says, values_or}
-use Rattle.checks.specs.declared.Checked.TheVariants.{Passed}
 use Rattle.checks.proofs.LineLaws.{all_pass, both-pass}
 use Rattle.fates.specs.Entries.{entries_of_breaks}
 use Rattle.fates.proofs.EntryLaws.{length-entries}

@@ -6,8 +6,8 @@ use Rattle.std.proofs.Math.Decide.{ℕ_discrete}
 use Rattle.words.specs.Separated.{UpToSeparator}
 use Rattle.theory.specs.Orders.SignLaws.{sign-is, sign-only}
 use Rattle.theory.specs.Orders.CommonWithin.{common-within-is, shared-unique}
+use Rattle.checks.specs.Lines.{Passed}
 use Rattle.checks.specs.Answers.{gives, checked}
-use Rattle.checks.specs.declared.Checked.TheVariants.{Passed}
 use Rattle.checks.proofs.LineLaws.{both-passed}
 use Rattle.compare.specs.declared.suffixes.Comparison.{Comparison}
 use Rattle.compare.specs.Compare.{comparison_says, compare_lines, order_of}

@@ -1,16 +1,14 @@
 -- THEOREM demand-1: the customer's first demand holds of all calls whose answers meet the promises behind a doorway that is sound. What answers say by their
 -- lines: filled-says, breaks-say, card-says.
-use Rattle.std.specs.Prelude.{◌≡◌, refl, Bool, true, false, ◌⊎◌, ℕ, zero, suc, ◌<◌, length, drop, replicate, ltb}
+use Rattle.std.specs.Prelude.{◌≡◌, refl, Bool, true, false, ◌⊎◌, ℕ, zero, suc, ◌<◌, length, drop, replicate, ltb, Result}
 use Rattle.std.proofs.Common.{ap, sym, ◌∙◌, inl, inr, arith, take_at, drop_at, ne_eqb}
 use mathlib.Core.List.{List, [], ◌∷◌, ◌++◌, Memᴰ}
 use Rattle.std.proofs.lemmas.List.{length-replicate}
 use Rattle.words.specs.Pairs.{ends_of}
 use Rattle.buffers.specs.Buffers.{cleared}
-use Rattle.checks.specs.Lines.{Line, Door, tried, decided, ◌unless◌then◌}
-use Rattle.checks.specs.Answers.{numbered, number_of, Says, checked, count_says, Filled}
-use Rattle.checks.specs.declared.Checked.{Checked}
-use Rattle.checks.specs.declared.Checked.TheVariants.{Passed, Refused}
-use Rattle.checks.specs.declared.Counted.{Counted}
+use Rattle.checks.specs.Lines.{Line, Door, tried, decided, ◌unless◌then◌, Checked, Passed, Refused}
+use Rattle.checks.specs.Answers.{numbered, checked_number, Says, checked, count_says, Filled}
+use Rattle.checks.specs.declared.refusals.Refusal.{Refusal}
 use Rattle.checks.proofs.LineLaws.{not-both, reading, said, zero-passes, numbered_is}
 use Rattle.checks.proofs.LineLaws.{every_number, every-joined, every-weaker, among, among_first, among_second, first-listed}
 use Rattle.extension.specs.Extension.{verdict_of, extension_lines}
@@ -36,15 +34,15 @@ answers {k} numbers lines z h p = record {
   positive = λ e y. above e (sym z ∙ y);
 }
   where
-    go : (e : ℕ) → tried lines ≡ Refused e → (tried lines ≡ Passed) ⊎ Memᴰ (number_of (tried lines)) numbers → Memᴰ e numbers
+    go : (e : ℕ) → tried lines ≡ Refused e → (tried lines ≡ Passed) ⊎ Memᴰ (checked_number (tried lines)) numbers → Memᴰ e numbers
     go e y (inl x) = absurd (not-both y x)
     go e y (inr m) = rw y at m
 
     above : (e : ℕ) → tried lines ≡ Refused e → 0 < e
-    above zero y = absurd (not-both y (zero-passes lines p (ap number_of y)))
+    above zero y = absurd (not-both y (zero-passes lines p (ap checked_number y)))
     above (suc e) y = omega arith
 
-pub filled-says : {lines : List Line} {n : ℕ} {vs buffer buffer' : List ℕ} {r : Counted} → Filled lines n vs buffer r buffer' → checked (count_says r) ≡ tried lines
+pub filled-says : {lines : List Line} {n : ℕ} {vs buffer buffer' : List ℕ} {r : Result ℕ Refusal} → Filled lines n vs buffer r buffer' → checked (count_says r) ≡ tried lines
 filled-says {lines} {n} f = said n (tried lines) f.answer
 
 pub breaks-say : {door : List Line} {w work pairs breaks work' pairs' breaks' : List ℕ} {r : CountedBreaks}
@@ -52,7 +50,7 @@ pub breaks-say : {door : List Line} {w work pairs breaks work' pairs' breaks' : 
 breaks-say f = said _ (tried _) f.answer
 
 card-number : {door : Door} {bytes es work pairs work' pairs' : List ℕ} {r : Batch} → BatchDone door bytes es work pairs r work' pairs'
-    → r.refusal ≡ number_of (tried (batch_lines es (length bytes)))
+    → r.refusal ≡ checked_number (tried (batch_lines es (length bytes)))
 card-number {door} {bytes} {es} {work} {pairs} f =
     ap (λ (b : ℕ × List (Says ℕ)). b.0) f.answer
     ∙ reading (λ (b : ℕ × List (Says ℕ)). b.0) (batch_with 0 (batch_of door bytes es work pairs).answers) (λ number. batch_with number [])
@@ -78,7 +76,7 @@ untouched-but-4 {k} lines n work {work'} z f = record {
     at-4 : k ≡ Refused 4 → work' ≡ cleared n work
     at-4 y = rw (sym z ∙ y) at f
 
-summary-number : (es : List ℕ) (k : Checked) → (decided k (summary_of es) empty_summary).refusal ≡ number_of k
+summary-number : (es : List ℕ) (k : Checked) → (decided k (summary_of es) empty_summary).refusal ≡ checked_number k
 unfolding summary_of
 summary-number es (Refused number) = refl
 summary-number es Passed = refl
@@ -95,7 +93,7 @@ module _ (d : Doorway) (s : Sound d) (c : Calls) (m : Meets d.door c) where
       (every-joined (ltb 0) (d.door w) own (s.positive w) p)
 
   -- by the number alone
-  door-numbered : {e : ℕ} (w numbers : List ℕ) (own : List Line) → e ≡ number_of (tried (d.door w ++ own)) → every_number (among numbers) own ≡ true
+  door-numbered : {e : ℕ} (w numbers : List ℕ) (own : List Line) → e ≡ checked_number (tried (d.door w ++ own)) → every_number (among numbers) own ≡ true
       → every_number (ltb 0) own ≡ true → AnswersTo d w numbers own (numbered e)
   door-numbered w numbers own z h p =
       door-answers w numbers own (ap numbered z ∙ numbered_is (d.door w ++ own) (every-joined (ltb 0) (d.door w) own (s.positive w) p)) h p

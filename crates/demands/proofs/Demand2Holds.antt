@@ -1,5 +1,5 @@
 -- THEOREM demand-2: the customer's second demand holds of all calls whose answers meet the promises behind a doorway that is sound.
-use Rattle.std.specs.Prelude.{◌≡◌, List, ◌++◌, ℕ, ◌≤◌, ◌<◌, length, drop, get_or}
+use Rattle.std.specs.Prelude.{◌≡◌, List, ◌++◌, ℕ, ◌≤◌, ◌<◌, length, drop, get_or, Result}
 use Rattle.std.proofs.Math.Path.{refl}
 use Rattle.std.proofs.Common.{ap, sym, ◌∙◌, arith}
 use Rattle.std.proofs.Math.ListN.{length-drop}
@@ -23,10 +23,9 @@ use Rattle.theory.proofs.Stretches.Factors.{separated-cfl-in-is, separated-cfl-i
 use Rattle.theory.proofs.Stretches.CflInSteps.{separator-part}
 use Rattle.theory.specs.Stretches.TableEntries.{separated-table-letter, separated-table-separator, separated-table-length}
 use Rattle.buffers.specs.Buffers.{cleared}
-use Rattle.checks.specs.Lines.{Line, tried}
+use Rattle.checks.specs.Lines.{Line, tried, Passed}
 use Rattle.checks.specs.Answers.{gives, checked, count_says, Filled}
-use Rattle.checks.specs.declared.Checked.TheVariants.{Passed}
-use Rattle.checks.specs.declared.Counted.{Counted}
+use Rattle.checks.specs.declared.refusals.Refusal.{Refusal}
 use Rattle.checks.proofs.LineLaws.{said}
 use Rattle.extension.specs.declared.Extension.{Extension}
 use Rattle.extension.specs.Extension.{test_says, verdict_of, extension_lines, ExtensionFound}
@@ -42,13 +41,13 @@ use Rattle.demands.specs.Meets.{Sound, Meets}
 use Rattle.demands.proofs.Demand1Holds.{filled-says, breaks-say}
 use Rattle.demands.specs.PairsHold.{own_read, own-summed}
 
-gave : {lines : List Line} {n : ℕ} {vs buffer buffer' : List ℕ} {r : Counted} → n ≡ length vs → Filled lines n vs buffer r buffer' → checked (count_says r) ≡ Passed
+gave : {lines : List Line} {n : ℕ} {vs buffer buffer' : List ℕ} {r : Result ℕ Refusal} → n ≡ length vs → Filled lines n vs buffer r buffer' → checked (count_says r) ≡ Passed
     → Gave vs r buffer buffer'
 gave {lines} z f e =
     let none : tried lines ≡ Passed = sym (filled-says f) ∙ e in
     record { count = (rw none at f.answer) ∙ ap (λ (t : ℕ). gives t) z; entries = rw none at f.result }
 
-gave-pairs : {door : List Line} (w work pairs work' pairs' : List ℕ) (r : Counted) → IcflDone door w work pairs r work' pairs' → checked (count_says r) ≡ Passed
+gave-pairs : {door : List Line} (w work pairs work' pairs' : List ℕ) (r : Result ℕ Refusal) → IcflDone door w work pairs r work' pairs' → checked (count_says r) ≡ Passed
     → GavePairs w r work pairs work' pairs'
 gave-pairs {door} w work pairs work' pairs' r f e =
     let none : tried (door ++ icfl_lines w (length work) (length pairs)) ≡ Passed = sym (filled-says (icfl-filled f)) ∙ e in

@@ -1,6 +1,6 @@
 -- THEOREM demands-suffice: calls that meet the demands give no answer, and leave no lent buffer, but as the promises say. So the demands say as much as the
 -- promises (all-demands, in DemandsHold, is the converse), and shut out every other library. The comparison is said of records of bytes, as in demand 3.
-use Rattle.std.specs.Prelude.{◌≡◌, List, [], ◌++◌, ℕ, ◌*◌, length}
+use Rattle.std.specs.Prelude.{◌≡◌, List, [], ◌++◌, ℕ, ◌*◌, length, Result}
 use Rattle.std.proofs.Math.Path.{refl, ap, sym}
 use Rattle.std.proofs.Common.{◌∙◌}
 use Rattle.words.specs.Separated.{UpToSeparator, separated_icfl_ends, separated_cfl_in_ends, separated_table}
@@ -10,11 +10,9 @@ use Rattle.theory.specs.Lyndon.WordTests.{inverse-lyndon-test}
 use Rattle.theory.specs.Icfl.BoundedExtension.{extension-not, extension-only}
 use Rattle.theory.specs.Stretches.TableEntries.{separated-table-length}
 use Rattle.buffers.specs.Buffers.{cleared, written}
-use Rattle.checks.specs.Lines.{Line, tried, record_lines}
-use Rattle.checks.specs.Answers.{number_of, numbered, gives, refuses, checked, count_says, Filled}
-use Rattle.checks.specs.declared.Checked.{Checked}
-use Rattle.checks.specs.declared.Checked.TheVariants.{Passed}
-use Rattle.checks.specs.declared.Counted.{Counted}
+use Rattle.checks.specs.Lines.{Line, tried, record_lines, Checked, Passed}
+use Rattle.checks.specs.Answers.{checked_number, numbered, gives, refuses, checked, count_says, Filled}
+use Rattle.checks.specs.declared.refusals.Refusal.{Refusal}
 use Rattle.checks.proofs.LineLaws.{not-both, both-passed}
 use Rattle.extension.specs.declared.Extension.{Extension}
 use Rattle.extension.specs.Extension.{test_says, verdict_of, ExtensionFound}
@@ -59,7 +57,7 @@ module _ (d : Doorway) (s : Sound d) (c : Calls) (all : Demands d c) where
       let door = (both-passed (d.door w) own (sym e ∙ p)).0 in
       all.second w (s.accepts w door).nonempty (s.few w door)
 
-  filled : {lines : List Line} (n : ℕ) (vs buffer buffer' : List ℕ) (r : Counted) → checked (count_says r) ≡ tried lines → Untouched (checked (count_says r)) buffer buffer'
+  filled : {lines : List Line} (n : ℕ) (vs buffer buffer' : List ℕ) (r : Result ℕ Refusal) → checked (count_says r) ≡ tried lines → Untouched (checked (count_says r)) buffer buffer'
       → (checked (count_says r) ≡ Passed → (count_says r ≡ gives n) × (buffer' ≡ written vs buffer)) → Filled lines n vs buffer r buffer'
   filled n vs buffer buffer' r first kept passed = record {
     answer = answer-is _ first (count_says r) (gives n) refuses (says-refused (count_says r)) (λ p. (passed p).0);
@@ -87,7 +85,7 @@ module _ (d : Doorway) (s : Sound d) (c : Calls) (all : Demands d c) where
       }
 
   -- both piece cuts
-  cut : (w work pairs : List ℕ) (r : Counted) (work' pairs' : List ℕ) → c.PieceCut w work pairs r work' pairs'
+  cut : (w work pairs : List ℕ) (r : Result ℕ Refusal) (work' pairs' : List ℕ) → c.PieceCut w work pairs r work' pairs'
       → IcflDone (d.door w) w work pairs r work' pairs'
   cut w work pairs r work' pairs' h =
       let told = all.first.piece_cut w work pairs work' pairs' r h in
@@ -116,7 +114,7 @@ module _ (d : Doorway) (s : Sound d) (c : Calls) (all : Demands d c) where
       let told = all.first.reader w ps k part number h in
       let first = told.0.first in
       record {
-        number_is = sym (number-back number) ∙ ap number_of first;
+        number_is = sym (number-back number) ∙ ap checked_number first;
         part-is = answer-is _ first part _ (λ number. []) told.1 (λ p. (all.reader w ps k part number h p).part-is);
       }
 
@@ -126,7 +124,7 @@ module _ (d : Doorway) (s : Sound d) (c : Calls) (all : Demands d c) where
       let up = all.summary w ps r h p in
       let fit = all-admitted (d.door w) w ps (s.accepts w) (sym (all.first.summary w ps r h).0.first ∙ p) in
       let only = latest-only up.longest (latest-longest fit.rises fit.some) in
-      let zero-refusal = sym (number-back r.refusal) ∙ ap number_of p in
+      let zero-refusal = sym (number-back r.refusal) ∙ ap checked_number p in
       λ t. record { refusal = zero-refusal t; count = up.count t; longest = only.0 t; from = only.1 t; bands = up.bands t }
 
   summed : (w ps : List ℕ) (r : Summary) → c.Summing w ps r → Summarized (d.door w) w ps r

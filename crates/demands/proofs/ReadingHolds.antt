@@ -11,9 +11,8 @@ use Rattle.theory.specs.Places.Ends.{adjacent-cases, adjacent-one}
 use Rattle.theory.specs.Places.EndsRise.{Rises, done, more}
 use Rattle.theory.specs.Places.EndsRise.{rises-most}
 use Rattle.theory.specs.Places.Parts.{rises-adjacent}
-use Rattle.checks.specs.Lines.{tried}
+use Rattle.checks.specs.Lines.{tried, Passed}
 use Rattle.checks.specs.Answers.{numbered}
-use Rattle.checks.specs.declared.Checked.TheVariants.{Passed}
 use Rattle.checks.proofs.LineLaws.{unmet, both-passed}
 use Rattle.reading.specs.Factor.{factor_lines}
 use Rattle.summary.specs.declared.Summary.{Summary}

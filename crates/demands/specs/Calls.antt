@@ -1,10 +1,10 @@
 -- DEFINITIONS. The calls that the customer's demands speak of (Calls): the library's, by their promises, and the exported functions, by the numbers that they
 -- give and what these stand for. Both are those behind the record's lines; nothing else here knows which lines stand at a door.
-use Rattle.std.specs.Prelude.{◌≡◌, true, false, List, map, ℕ, ℤ, eqb}
+use Rattle.std.specs.Prelude.{◌≡◌, true, false, List, map, ℕ, ℤ, eqb, Result, Ok}
 use Rattle.std.proofs.Math.Seq.{slice}
 use Rattle.checks.specs.Lines.{Door, decided, record_lines}
 use Rattle.checks.specs.Answers.{numbered}
-use Rattle.checks.specs.declared.Counted.{Counted}
+use Rattle.checks.specs.declared.refusals.Refusal.{Refusal}
 use Rattle.extension.specs.declared.Extension.{Extension}
 use Rattle.extension.specs.Extension.{ExtensionFound}
 use Rattle.icfl_breaks.specs.declared.CountedBreaks.{CountedBreaks}
@@ -28,12 +28,12 @@ use Rattle.exports.specs.Exports.{export_door, Gives, factor_numbers}
 
 pub record Calls : Type 1 where
   pub Test : (w work : List ℕ) (r : Extension) (work' : List ℕ) → Type 0
-  pub PieceCut : (w work pairs : List ℕ) (r : Counted) (work' pairs' : List ℕ) → Type 0
+  pub PieceCut : (w work pairs : List ℕ) (r : Result ℕ Refusal) (work' pairs' : List ℕ) → Type 0
   pub ReasonedCut : (w work pairs breaks : List ℕ) (r : CountedBreaks) (work' pairs' breaks' : List ℕ) → Type 0
   pub CardCut : (bytes es work pairs : List ℕ) (r : Batch) (work' pairs' : List ℕ) → Type 0
-  pub StrictCut : (w ends : List ℕ) (r : Counted) (ends' : List ℕ) → Type 0
-  pub StartTable : (w out : List ℕ) (r : Counted) (out' : List ℕ) → Type 0
-  pub Repetitions : (w out : List ℕ) (r : Counted) (out' : List ℕ) → Type 0
+  pub StrictCut : (w ends : List ℕ) (r : Result ℕ Refusal) (ends' : List ℕ) → Type 0
+  pub StartTable : (w out : List ℕ) (r : Result ℕ Refusal) (out' : List ℕ) → Type 0
+  pub Repetitions : (w out : List ℕ) (r : Result ℕ Refusal) (out' : List ℕ) → Type 0
   pub Comparing : (w : List ℕ) (first end start other : ℕ) (r : Comparison) → Type 0
   pub Reading : (w ps : List ℕ) (k : ℕ) (part : List ℕ) (number : ℕ) → Type 0
   pub Summing : (w ps : List ℕ) (r : Summary) → Type 0
@@ -64,8 +64,8 @@ abbrev pub verdict_by : ℕ × ℕ × ℕ × ℕ → Extension
 verdict_by (number, failing, prefix, border) =
     decided (numbered number) (elim (eqb failing 0) [ true ↦ Extension.InverseLyndon | false ↦ Extension.Failing failing prefix border ]) Extension.Refused
 
-abbrev pub count_by : ℕ × ℕ → Counted
-count_by (number, count) = decided (numbered number) (Counted.Count count) Counted.Refused
+abbrev pub count_by : ℕ × ℕ → Result ℕ Refusal
+count_by (number, count) = decided (numbered number) (Ok count) Result ℕ Refusal.Refused
 
 abbrev pub counts_by : ℕ × ℕ × ℕ → CountedBreaks
 counts_by (number, factors, breaks) = decided (numbered number) (CountedBreaks.Counts factors breaks) CountedBreaks.Refused

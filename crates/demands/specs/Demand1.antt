@@ -1,13 +1,11 @@
 -- DEFINITIONS. Demand 1: "The answer to every call, for every input, is a result or one of eight numbered refusals; .. and paper 01 fixes the condition, the
 -- order and every buffer for each refusal." Request 103: "Demand 1's eight refusals grow by each number named from here on": 9, and 10 of request 105.
-use Rattle.std.specs.Prelude.{◌≡◌, ℕ, ◌*◌, ◌<◌, length, take, drop, replicate}
+use Rattle.std.specs.Prelude.{◌≡◌, ℕ, ◌*◌, ◌<◌, length, take, drop, replicate, Result}
 use mathlib.Core.List.{List, [], ◌∷◌, ◌++◌, Memᴰ}
 use Rattle.words.specs.Words.{most_letters}
-use Rattle.checks.specs.Lines.{Line, Door, tried, record_lines}
+use Rattle.checks.specs.Lines.{Line, Door, tried, record_lines, Checked, Refused}
 use Rattle.checks.specs.Answers.{numbered, checked, count_says}
-use Rattle.checks.specs.declared.Checked.{Checked}
-use Rattle.checks.specs.declared.Checked.TheVariants.{Refused}
-use Rattle.checks.specs.declared.Counted.{Counted}
+use Rattle.checks.specs.declared.refusals.Refusal.{Refusal}
 use Rattle.extension.specs.declared.Extension.{Extension}
 use Rattle.extension.specs.Extension.{test_says, extension_lines}
 use Rattle.icfl.specs.Icfl.{icfl_lines}
@@ -58,13 +56,13 @@ pub record UntouchedBut4 (n : ℕ) (said : Checked) (work work' : List ℕ) : Ty
 -- "The answer to every call, for every input": there is one
 pub record Total (c : Calls) : Type 0 where
   pub test : (w work : List ℕ) → (r : Extension) × (work' : List ℕ) × c.Test w work r work'
-  pub piece_cut : (w work pairs : List ℕ) → (r : Counted) × (work' pairs' : List ℕ) × c.PieceCut w work pairs r work' pairs'
+  pub piece_cut : (w work pairs : List ℕ) → (r : Result ℕ Refusal) × (work' pairs' : List ℕ) × c.PieceCut w work pairs r work' pairs'
   pub reasoned_cut : (w work pairs breaks : List ℕ) → (r : CountedBreaks) × (work' pairs' breaks' : List ℕ)
       × c.ReasonedCut w work pairs breaks r work' pairs' breaks'
   pub card : (bytes es work pairs : List ℕ) → (r : Batch) × (work' pairs' : List ℕ) × c.CardCut bytes es work pairs r work' pairs'
-  pub strict_cut : (w ends : List ℕ) → (r : Counted) × (ends' : List ℕ) × c.StrictCut w ends r ends'
-  pub start_table : (w out : List ℕ) → (r : Counted) × (out' : List ℕ) × c.StartTable w out r out'
-  pub repetitions : (w out : List ℕ) → (r : Counted) × (out' : List ℕ) × c.Repetitions w out r out'
+  pub strict_cut : (w ends : List ℕ) → (r : Result ℕ Refusal) × (ends' : List ℕ) × c.StrictCut w ends r ends'
+  pub start_table : (w out : List ℕ) → (r : Result ℕ Refusal) × (out' : List ℕ) × c.StartTable w out r out'
+  pub repetitions : (w out : List ℕ) → (r : Result ℕ Refusal) × (out' : List ℕ) × c.Repetitions w out r out'
   pub comparison : (w : List ℕ) (first end start other : ℕ) → (r : Comparison) × c.Comparing w first end start other r
   pub reader : (w ps : List ℕ) (k : ℕ) → (part : List ℕ) × (number : ℕ) × c.Reading w ps k part number
   pub summary : (w ps : List ℕ) → (r : Summary) × c.Summing w ps r
@@ -74,7 +72,7 @@ pub record Demand1 (d : Doorway) (c : Calls) : Type 0 where
   pub answered : Total c
   pub test : (w work work' : List ℕ) (r : Extension) → c.Test w work r work'
       → AnswersTo d w (3 ∷ 9 ∷ []) (extension_lines w (length work)) (checked (test_says r)) × Untouched (checked (test_says r)) work work'
-  pub piece_cut : (w work pairs work' pairs' : List ℕ) (r : Counted) → c.PieceCut w work pairs r work' pairs'
+  pub piece_cut : (w work pairs work' pairs' : List ℕ) (r : Result ℕ Refusal) → c.PieceCut w work pairs r work' pairs'
       → AnswersTo d w (3 ∷ 4 ∷ []) (icfl_lines w (length work) (length pairs)) (checked (count_says r)) × Untouched (checked (count_says r)) pairs pairs'
       × UntouchedBut4 (3 * length w) (checked (count_says r)) work work'
   -- request 102: the same with breaks beside the pairs
@@ -85,12 +83,12 @@ pub record Demand1 (d : Doorway) (c : Calls) : Type 0 where
   pub card : (bytes es work pairs work' pairs' : List ℕ) (r : Batch) → c.CardCut bytes es work pairs r work' pairs'
       → Answers (10 ∷ []) (batch_lines es (length bytes)) (numbered r.refusal) × Untouched (numbered r.refusal) pairs pairs'
       × Untouched (numbered r.refusal) work work' × ((e : ℕ) → numbered r.refusal ≡ Refused e → says_of r.places ≡ places_of [])
-  pub strict_cut : (w ends ends' : List ℕ) (r : Counted) → c.StrictCut w ends r ends'
+  pub strict_cut : (w ends ends' : List ℕ) (r : Result ℕ Refusal) → c.StrictCut w ends r ends'
       → AnswersTo d w (4 ∷ []) (cfl_in_lines w (length ends)) (checked (count_says r)) × Untouched (checked (count_says r)) ends ends'
-  pub start_table : (w out out' : List ℕ) (r : Counted) → c.StartTable w out r out'
+  pub start_table : (w out out' : List ℕ) (r : Result ℕ Refusal) → c.StartTable w out r out'
       → AnswersTo d w (4 ∷ []) (table_lines w (length out)) (checked (count_says r)) × Untouched (checked (count_says r)) out out'
   -- request 107: "no work buffer is lent, and a short list buffer gets 4"
-  pub repetitions : (w out out' : List ℕ) (r : Counted) → c.Repetitions w out r out'
+  pub repetitions : (w out out' : List ℕ) (r : Result ℕ Refusal) → c.Repetitions w out r out'
       → AnswersTo d w (4 ∷ []) (runs_lines w (length out)) (checked (count_says r)) × Untouched (checked (count_says r)) out out'
   pub comparison : (w : List ℕ) (first end start other : ℕ) (r : Comparison) → c.Comparing w first end start other r
       → AnswersTo d w (5 ∷ 6 ∷ []) (compare_lines (length w) first end start other) (checked (comparison_says r))

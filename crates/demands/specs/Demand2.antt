@@ -1,6 +1,6 @@
 -- DEFINITIONS. Demand 2, for a record w: the pieces are those of the published definition, the strict pieces its Lyndon factors, and the start table's lengths
 -- those of the longest strict words; with what requests 102, 103 and 108 add.
-use Rattle.std.specs.Prelude.{◌≡◌, ℕ, ◌+◌, ◌-◌, ◌*◌, ◌≤◌, ◌<◌, length, take, drop, get_or}
+use Rattle.std.specs.Prelude.{◌≡◌, ℕ, ◌+◌, ◌-◌, ◌*◌, ◌≤◌, ◌<◌, length, take, drop, get_or, Result, Ok}
 use mathlib.Core.List.{List, [], ◌∷◌, map, Memᴰ}
 use Rattle.words.specs.Words.{InverseLyndon, AntiLyndon}
 use Rattle.words.specs.Factorizations.{icfl, icfl_breaks, breaks_from, cfl_in, lyndon_table, join_first, failing_length, prefix_length, border_length}
@@ -24,9 +24,9 @@ use Rattle.theory.specs.Statements.{BoundedExtension, BreaksOf, DominatedBy, Equ
 use Rattle.theory.specs.SeparatedStatements.{SeparatedOf, moved, ends_over, kept_ends_of}
 use Rattle.theory.specs.PairStatements.{PairsOf}
 use Rattle.buffers.specs.Buffers.{cleared, written}
+use Rattle.checks.specs.Lines.{Passed}
 use Rattle.checks.specs.Answers.{gives, checked, count_says}
-use Rattle.checks.specs.declared.Checked.TheVariants.{Passed}
-use Rattle.checks.specs.declared.Counted.{Counted}
+use Rattle.checks.specs.declared.refusals.Refusal.{Refusal}
 use Rattle.extension.specs.declared.Extension.{Extension}
 use Rattle.extension.specs.Extension.{test_says}
 use Rattle.fates.specs.Entries.{entries_of_breaks}
@@ -36,13 +36,13 @@ use Rattle.summary.specs.declared.Summary.{Summary}
 use Rattle.demands.specs.Calls.{Calls}
 
 -- "An accepted cut or start table writes exactly the answer's entries, from entry 0, and answers with their number": the buffer whole
-pub record Gave (vs : List ℕ) (r : Counted) (buffer buffer' : List ℕ) : Type 0 where
+pub record Gave (vs : List ℕ) (r : Result ℕ Refusal) (buffer buffer' : List ℕ) : Type 0 where
   pub count : count_says r ≡ gives (length vs)
   pub entries : buffer' ≡ written vs buffer
 
 -- request 108: "the cut still answers with the number of pieces", and writes their pairs. "After an accepted cut or test .. the entries counted in line 3 are
 -- zero and later ones unchanged."
-pub record GavePairs (w : List ℕ) (r : Counted) (work pairs work' pairs' : List ℕ) : Type 0 where
+pub record GavePairs (w : List ℕ) (r : Result ℕ Refusal) (work pairs work' pairs' : List ℕ) : Type 0 where
   pub count : count_says r ≡ gives (length (separated_icfl_ends w))
   pub entries : pairs' ≡ written (separated_pairs w) pairs
   pub zeros : work' ≡ cleared (3 * length w) work
@@ -70,14 +70,14 @@ pub record Published (v : List ℕ) : Type 0 where
 pub record Demand2 (c : Calls) (w : List ℕ) : Type 0 where
   -- "The pieces of a record of 1 to 4,096 bytes .."; request 108: "Each entry of the piece cut becomes two numbers, the end and the number of strict pieces
   -- inside."
-  pub pieces : (work pairs work' pairs' : List ℕ) (r : Counted) → c.PieceCut w work pairs r work' pairs' → checked (count_says r) ≡ Passed
+  pub pieces : (work pairs work' pairs' : List ℕ) (r : Result ℕ Refusal) → c.PieceCut w work pairs r work' pairs' → checked (count_says r) ≡ Passed
       → GavePairs w r work pairs work' pairs'
   pub counted : PairsOf w (separated_pairs w)
   pub two_each : length (separated_pairs w) ≡ 2 * length (separated_icfl_ends w)
   -- "The reader and the summary take the paired list": that of the piece cut is not refused
-  pub read : (work pairs work' pairs' : List ℕ) (n : ℕ) → c.PieceCut w work pairs (Counted.Count n) work' pairs'
+  pub read : (work pairs work' pairs' : List ℕ) (n : ℕ) → c.PieceCut w work pairs (Ok n) work' pairs'
       → (k : ℕ) (part : List ℕ) (number : ℕ) → c.Reading w (take (2 * n) pairs') k part number → k < n → number ≡ 0
-  pub summed : (work pairs work' pairs' : List ℕ) (n : ℕ) → c.PieceCut w work pairs (Counted.Count n) work' pairs'
+  pub summed : (work pairs work' pairs' : List ℕ) (n : ℕ) → c.PieceCut w work pairs (Ok n) work' pairs'
       → (r : Summary) → c.Summing w (take (2 * n) pairs') r → r.refusal ≡ 0
   -- request 103: "Each mark is a piece and a strict piece of its own .. Each nonempty stretch between neighbouring marks or the record's edges is cut as a record
   -- by itself": so it is made, and it is the only list of the kind
@@ -103,12 +103,12 @@ pub record Demand2 (c : Calls) (w : List ℕ) : Type 0 where
   -- "The kept breaks and the record's end are exactly the piece ends", with the ends of marks and of nonempty stretches
   pub kept_ends : separated_icfl_ends w ≡ ends_over kept_ends_of 0 (stretches w)
   -- "the strict pieces", likewise
-  pub strict_pieces : (ends ends' : List ℕ) (r : Counted) → c.StrictCut w ends r ends' → checked (count_says r) ≡ Passed → Gave (separated_cfl_in_ends w) r ends ends'
+  pub strict_pieces : (ends ends' : List ℕ) (r : Result ℕ Refusal) → c.StrictCut w ends r ends' → checked (count_says r) ≡ Passed → Gave (separated_cfl_in_ends w) r ends ends'
   pub strict_by_stretches : separated_cfl_in w ≡ between mark (map cfl_in (stretches w))
   pub factors : SeparatedOf AntiLyndon EqualOrAfter w (separated_cfl_in w)
   pub only : (ls : List (List ℕ)) → SeparatedOf AntiLyndon EqualOrAfter w ls → ls ≡ separated_cfl_in w
   -- "and the start table holds the length of the longest strict word at each place", 1 at a mark
-  pub table : (out out' : List ℕ) (r : Counted) → c.StartTable w out r out' → checked (count_says r) ≡ Passed → Gave (separated_table w) r out out'
+  pub table : (out out' : List ℕ) (r : Result ℕ Refusal) → c.StartTable w out r out' → checked (count_says r) ≡ Passed → Gave (separated_table w) r out out'
   pub table_by_stretches : separated_table w ≡ between 1 (map lyndon_table (stretches w))
   pub at_mark : (i : ℕ) → get_or w i 0 ≡ separator → get_or (separated_table w) i 0 ≡ 1
   pub inside : (i : ℕ) → i < length w → get_or w i 0 < separator → get_or (separated_table w) i 0 ≤ length w - i

@@ -1,6 +1,6 @@
 -- DEFINITIONS. Demand 3, for a record w, the ends es that the piece cut wrote, the ends ss that the strict cut wrote, and the comparison's answers; and what
 -- three calls gave (Given).
-use Rattle.std.specs.Prelude.{◌≡◌, ◌⊎◌, ℕ, ◌-◌, ◌*◌, ◌≤◌, ◌<◌, min, max, length, take, pos, negsuc}
+use Rattle.std.specs.Prelude.{◌≡◌, ◌⊎◌, ℕ, ◌-◌, ◌*◌, ◌≤◌, ◌<◌, min, max, length, take, pos, negsuc, Ok}
 use mathlib.Core.List.{List, ◌++◌, Memᴰ}
 use Rattle.std.proofs.Math.Seq.{slice}
 use Rattle.words.specs.Words.{◌≪◌, ◌⊑◌, ◌<ₗ◌}
@@ -8,7 +8,7 @@ use Rattle.words.specs.Separated.{UpToSeparator}
 use Rattle.words.specs.Pairs.{ends_of}
 use Rattle.theory.specs.Statements.{SignOf, SharedMost, Part, WholePieces, Compatible}
 use Rattle.theory.specs.SeparatedStatements.{UnlessMark, UnmarkedPieces}
-use Rattle.checks.specs.declared.Counted.{Counted}
+use Rattle.checks.specs.declared.refusals.Refusal.{Refusal}
 use Rattle.compare.specs.declared.suffixes.Comparison.{Comparison}
 use Rattle.compare.specs.Compare.{sign_of, common_of}
 use Rattle.demands.specs.Calls.{Calls}
@@ -54,6 +54,6 @@ pub record Given (most : ℕ) (c : Calls) (w es ss : List ℕ) (compare : ℕ �
   pub nonempty : 1 ≤ length w
   pub short : length w ≤ most
   pub bytes : UpToSeparator w
-  pub piece_cut : (work pairs work' pairs' : List ℕ) × (n : ℕ) × c.PieceCut w work pairs (Counted.Count n) work' pairs' × (es ≡ ends_of (take (2 * n) pairs'))
-  pub strict_cut : (ends ends' : List ℕ) × (n : ℕ) × c.StrictCut w ends (Counted.Count n) ends' × (ss ≡ take n ends')
+  pub piece_cut : (work pairs work' pairs' : List ℕ) × (n : ℕ) × c.PieceCut w work pairs (Ok n) work' pairs' × (es ≡ ends_of (take (2 * n) pairs'))
+  pub strict_cut : (ends ends' : List ℕ) × (n : ℕ) × c.StrictCut w ends (Ok n) ends' × (ss ≡ take n ends')
   pub comparison : (first end start other : ℕ) → c.Comparing w first end start other (compare first end start other)

@@ -2,12 +2,12 @@
 -- so are the exported functions: that the demands hold of both are the theorems library-demands and exported-demands (DemandsHold). Each field carries the
 -- customer's sentence, in Demand1, Demand2, Demand3 and Requests. That every call ends, and without undefined behaviour, is what the proof of its function says.
 -- What meets them gives the library's answers and leaves the lent buffers as the library does: library-only (DemandsSuffice).
-use Rattle.std.specs.Prelude.{◌≡◌, List, ℕ, ◌≤◌, length}
+use Rattle.std.specs.Prelude.{◌≡◌, List, ℕ, ◌≤◌, length, Result}
 use Rattle.words.specs.Separated.{UpToSeparator}
 use Rattle.words.specs.Pairs.{ends_of}
+use Rattle.checks.specs.Lines.{Passed}
 use Rattle.checks.specs.Answers.{numbered, checked, count_says}
-use Rattle.checks.specs.declared.Checked.TheVariants.{Passed}
-use Rattle.checks.specs.declared.Counted.{Counted}
+use Rattle.checks.specs.declared.refusals.Refusal.{Refusal}
 use Rattle.batch.specs.declared.Batch.{Batch}
 use Rattle.compare.specs.declared.suffixes.Comparison.{Comparison}
 use Rattle.summary.specs.declared.Summary.{Summary}
@@ -28,4 +28,4 @@ pub record Demands (d : Doorway) (c : Calls) : Type 0 where
   pub summary : (w ps : List ℕ) (r : Summary) → c.Summing w ps r → numbered r.refusal ≡ Passed → SummedUp (ends_of ps) r
   pub card : (bytes es work pairs work' pairs' : List ℕ) (r : Batch) → c.CardCut bytes es work pairs r work' pairs' → numbered r.refusal ≡ Passed
       → CardAnswered c bytes es work pairs r work' pairs'
-  pub repetitions : (w out out' : List ℕ) (r : Counted) → c.Repetitions w out r out' → checked (count_says r) ≡ Passed → RepetitionsListed w out r out'
+  pub repetitions : (w out out' : List ℕ) (r : Result ℕ Refusal) → c.Repetitions w out r out' → checked (count_says r) ≡ Passed → RepetitionsListed w out r out'

@@ -1,6 +1,6 @@
 -- The answers of the exported functions meet the promises of the calls behind the same door (exported-meets), and are given for all arguments
 -- (exported-total).
-use Rattle.std.specs.Prelude.{◌≡◌, refl, true, get_or, replicate, ltb, ℤ}
+use Rattle.std.specs.Prelude.{◌≡◌, refl, true, get_or, replicate, ltb, ℤ, Result, Ok, Err}
 use Rattle.std.proofs.Math.Path.{ap}
 use Rattle.std.proofs.Common.{sym, ◌∙◌, arith, ne_eqb}
 use mathlib.Core.List.{List, [], ◌∷◌, ◌++◌, map}
@@ -12,11 +12,9 @@ use Rattle.words.specs.Pairs.{ends_of}
 use Rattle.theory.specs.Icfl.Failing.{failing-is}
 use Rattle.conditions.specs.Conditions.{most_records}
 use Rattle.pairs.specs.PairedList.{factor_begin}
-use Rattle.checks.specs.Lines.{Line, tried, decided, ◌unless◌then◌}
-use Rattle.checks.specs.Answers.{number_of, Says, gives, refuses, checked, count_says}
-use Rattle.checks.specs.declared.Checked.{Checked}
-use Rattle.checks.specs.declared.Checked.TheVariants.{Passed, Refused}
-use Rattle.checks.specs.declared.Counted.{Counted}
+use Rattle.checks.specs.Lines.{Line, tried, decided, ◌unless◌then◌, Checked, Passed, Refused}
+use Rattle.checks.specs.Answers.{checked_number, Says, gives, refuses, checked, count_says}
+use Rattle.checks.specs.declared.refusals.Refusal.{Refusal}
 use Rattle.checks.proofs.LineLaws.{both-passed, every_number, every-joined, reading, said, gave, zero-passes, not-both}
 use Rattle.extension.specs.declared.Extension.{Extension}
 use Rattle.extension.specs.Extension.{test_says, verdict_of, extension_lines}
@@ -45,19 +43,19 @@ read_back numbers by r Allowed back h =
     let given = h.2 in
     rw (h.1 ∙ ap by given.2 ∙ back given.0 given.1) given.1
 
-readable : (a : Counted) → ¬ (count_says a ≡ refuses 0) → count_by (count_numbers a) ≡ a
-readable (Counted.Count n) h = refl
-readable (Counted.Refused zero) h = absurd (h refl)
-readable (Counted.Refused (suc number)) h = refl
+readable : (a : Result ℕ Refusal) → ¬ (count_says a ≡ refuses 0) → count_by (count_numbers a) ≡ a
+readable (Ok n) h = refl
+readable (Err zero) h = absurd (h refl)
+readable (Err (suc number)) h = refl
 
 -- no answer says 0
 module _ (lines : List Line) (positive : every_number (ltb 0) lines ≡ true) where
   never-0 : {A : Type 0} (values : A) {s : Says A} → s ≡ gives values unless lines then refuses → ¬ (s ≡ refuses 0)
   never-0 values {s} e z =
       let met : Refused 0 ≡ tried lines = sym (ap checked z) ∙ said values (tried lines) e in
-      not-both (sym met) (zero-passes lines positive (ap number_of (sym met)))
+      not-both (sym met) (zero-passes lines positive (ap checked_number (sym met)))
 
-  count-back : (n : ℕ) (a : Counted) → count_says a ≡ gives n unless lines then refuses → count_by (count_numbers a) ≡ a
+  count-back : (n : ℕ) (a : Result ℕ Refusal) → count_says a ≡ gives n unless lines then refuses → count_by (count_numbers a) ≡ a
   count-back n a e = readable a (never-0 n e)
 
   breaks-back : (ns : ℕ × ℕ) (a : CountedBreaks) → breaks_says a ≡ gives ns unless lines then refuses → counts_by (breaks_numbers a) ≡ a
@@ -93,7 +91,7 @@ places-back : (places : List Place) → Every Positive (says_of places) → rere
 unfolding reread
 places-back [] h = refl
 places-back (p ∷ places) h =
-    ap (λ (a : Counted). record { answer = a } ∷ reread places) (readable p.answer h.0) ∙ ap (λ (t : List Place). p ∷ t) (places-back places h.1)
+    ap (λ (a : Result ℕ Refusal). record { answer = a } ∷ reread places) (readable p.answer h.0) ∙ ap (λ (t : List Place). p ∷ t) (places-back places h.1)
 
 blanks-positive : (answers : List (Says ℕ)) → Every Positive answers → (n : ℕ) → Every Positive (answers ++ replicate n (gives 0))
 blanks-positive [] h zero = tt

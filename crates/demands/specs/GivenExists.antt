@@ -8,8 +8,7 @@ use Rattle.words.specs.Pairs.{ends_of}
 use Rattle.theory.specs.Places.EndsRise.{rises-few}
 use Rattle.theory.specs.Stretches.Factors.{separated-icfl-ends-rise}
 use Rattle.theory.proofs.Stretches.Factors.{separated-cfl-in-ends-rise}
-use Rattle.checks.specs.Lines.{tried}
-use Rattle.checks.specs.declared.Checked.TheVariants.{Passed}
+use Rattle.checks.specs.Lines.{tried, Passed}
 use Rattle.checks.proofs.LineLaws.{all_pass, both-pass, count-given}
 use Rattle.icfl.specs.Icfl.{icfl_lines}
 use Rattle.cfl.specs.CflIn.{cfl_in_lines}

@@ -1,15 +1,13 @@
 -- Doorways that let in just the records of 1 to so many bytes (Sound), and calls whose answers meet the promises of the calls behind a door (Meets). The
 -- record's lines are such a doorway (record-door), and the calls behind a door are such calls (behind-meets) and answer (behind-total); the exported
 -- functions: ExportedMeets.
-use Rattle.std.specs.Prelude.{◌≡◌, refl, Bool, true, false, List, [], ◌∷◌, ◌++◌, ℕ, ◌≤◌, length, ltb, ℤ}
+use Rattle.std.specs.Prelude.{◌≡◌, refl, Bool, true, false, List, [], ◌∷◌, ◌++◌, ℕ, ◌≤◌, length, ltb, ℤ, Result, Ok, Err}
 use Rattle.std.proofs.Common.{ap}
 use Rattle.words.specs.Words.{is_inverse_lyndon}
 use Rattle.words.specs.Factorizations.{failing_length, prefix_length, border_length}
-use Rattle.checks.specs.Lines.{Door, tried, decided, Accepted}
+use Rattle.checks.specs.Lines.{Door, tried, decided, Accepted, Checked, Passed, Refused}
 use Rattle.checks.specs.Answers.{Says, gives, refuses, count_says}
-use Rattle.checks.specs.declared.Checked.{Checked}
-use Rattle.checks.specs.declared.Checked.TheVariants.{Passed, Refused}
-use Rattle.checks.specs.declared.Counted.{Counted}
+use Rattle.checks.specs.declared.refusals.Refusal.{Refusal}
 use Rattle.checks.proofs.LineLaws.{every_number, among}
 use Rattle.checks.proofs.RecordLaws.{accepted, record-passes}
 use Rattle.extension.specs.declared.Extension.{Extension}
@@ -54,15 +52,15 @@ record-door = record {
 -- every answer of the one calls may be given by the others
 pub record Within (c calls : Calls) : Type 0 where
   pub test : (w work : List ℕ) (r : Extension) (work' : List ℕ) → c.Test w work r work' → calls.Test w work r work'
-  pub piece_cut : (w work pairs : List ℕ) (r : Counted) (work' pairs' : List ℕ) → c.PieceCut w work pairs r work' pairs'
+  pub piece_cut : (w work pairs : List ℕ) (r : Result ℕ Refusal) (work' pairs' : List ℕ) → c.PieceCut w work pairs r work' pairs'
       → calls.PieceCut w work pairs r work' pairs'
   pub reasoned_cut : (w work pairs breaks : List ℕ) (r : CountedBreaks) (work' pairs' breaks' : List ℕ) → c.ReasonedCut w work pairs breaks r work' pairs' breaks'
       → calls.ReasonedCut w work pairs breaks r work' pairs' breaks'
   pub card : (bytes es work pairs : List ℕ) (r : Batch) (work' pairs' : List ℕ) → c.CardCut bytes es work pairs r work' pairs'
       → calls.CardCut bytes es work pairs r work' pairs'
-  pub strict_cut : (w ends : List ℕ) (r : Counted) (ends' : List ℕ) → c.StrictCut w ends r ends' → calls.StrictCut w ends r ends'
-  pub start_table : (w out : List ℕ) (r : Counted) (out' : List ℕ) → c.StartTable w out r out' → calls.StartTable w out r out'
-  pub repetitions : (w out : List ℕ) (r : Counted) (out' : List ℕ) → c.Repetitions w out r out' → calls.Repetitions w out r out'
+  pub strict_cut : (w ends : List ℕ) (r : Result ℕ Refusal) (ends' : List ℕ) → c.StrictCut w ends r ends' → calls.StrictCut w ends r ends'
+  pub start_table : (w out : List ℕ) (r : Result ℕ Refusal) (out' : List ℕ) → c.StartTable w out r out' → calls.StartTable w out r out'
+  pub repetitions : (w out : List ℕ) (r : Result ℕ Refusal) (out' : List ℕ) → c.Repetitions w out r out' → calls.Repetitions w out r out'
   pub comparison : (w : List ℕ) (first end start other : ℕ) (r : Comparison) → c.Comparing w first end start other r → calls.Comparing w first end start other r
   pub reader : (w ps : List ℕ) (k : ℕ) (part : List ℕ) (number : ℕ) → c.Reading w ps k part number → calls.Reading w ps k part number
   pub summary : (w ps : List ℕ) (r : Summary) → c.Summing w ps r → calls.Summing w ps r
@@ -87,9 +85,9 @@ behind-meets door = record {
 }
 
 -- for everything that can be said there is an answer that says it
-counted : (s : Says ℕ) → (r : Counted) × (count_says r ≡ s)
-counted (gives n) = (Counted.Count n, refl)
-counted (refuses number) = (Counted.Refused number, refl)
+counted : (s : Says ℕ) → (r : Result ℕ Refusal) × (count_says r ≡ s)
+counted (gives n) = (Ok n, refl)
+counted (refuses number) = (Err number, refl)
 
 reasoned : (s : Says (ℕ × ℕ)) → (r : CountedBreaks) × (breaks_says r ≡ s)
 reasoned (gives (factors, breaks)) = (CountedBreaks.Counts factors breaks, refl)

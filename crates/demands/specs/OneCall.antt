@@ -1,6 +1,6 @@
 -- The library but for one call: what each careless library is. Each says only the call in which it differs.
-use Rattle.std.specs.Prelude.{List, ℕ}
-use Rattle.checks.specs.declared.Counted.{Counted}
+use Rattle.std.specs.Prelude.{List, ℕ, Result}
+use Rattle.checks.specs.declared.refusals.Refusal.{Refusal}
 use Rattle.extension.specs.declared.Extension.{Extension}
 use Rattle.icfl_breaks.specs.declared.CountedBreaks.{CountedBreaks}
 use Rattle.batch.specs.declared.Batch.{Batch}
@@ -12,7 +12,7 @@ abbrev pub Test : Type 1
 Test = (w work : List ℕ) (r : Extension) (work' : List ℕ) → Type 0
 
 abbrev pub Cut : Type 1
-Cut = (w work pairs : List ℕ) (r : Counted) (work' pairs' : List ℕ) → Type 0
+Cut = (w work pairs : List ℕ) (r : Result ℕ Refusal) (work' pairs' : List ℕ) → Type 0
 
 abbrev pub ReasonedCut : Type 1
 ReasonedCut = (w work pairs breaks : List ℕ) (r : CountedBreaks) (work' pairs' breaks' : List ℕ) → Type 0
@@ -21,7 +21,7 @@ abbrev pub Card : Type 1
 Card = (bytes es work pairs : List ℕ) (r : Batch) (work' pairs' : List ℕ) → Type 0
 
 abbrev pub Listing : Type 1
-Listing = (w out : List ℕ) (r : Counted) (out' : List ℕ) → Type 0
+Listing = (w out : List ℕ) (r : Result ℕ Refusal) (out' : List ℕ) → Type 0
 
 abbrev pub Comparing : Type 1
 Comparing = (w : List ℕ) (first end start other : ℕ) (r : Comparison) → Type 0

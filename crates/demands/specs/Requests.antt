@@ -1,6 +1,6 @@
 -- DEFINITIONS. What paper 01 and requests 101, 105 and 107 promise of calls that demands 2 and 3 do not name: the part that is read, the summary, the answers
 -- for the records of a card, and the list of repetitions.
-use Rattle.std.specs.Prelude.{◌≡◌, ℕ, ◌+◌, ◌-◌, ◌*◌, ◌≤◌, ◌<◌, length, take, drop, get_or}
+use Rattle.std.specs.Prelude.{◌≡◌, ℕ, ◌+◌, ◌-◌, ◌*◌, ◌≤◌, ◌<◌, length, take, drop, get_or, Result}
 use mathlib.Core.List.{List, [], ◌∷◌, ◌++◌, sum, Memᴰ}
 use Rattle.std.proofs.Math.Seq.{slice}
 use Rattle.words.specs.Runs.{Triple}
@@ -8,7 +8,7 @@ use Rattle.theory.specs.Statements.{Part}
 use Rattle.theory.specs.RunStatements.{Earlier, IsSeparatedRun, Rising}
 use Rattle.buffers.specs.Buffers.{written}
 use Rattle.checks.specs.Answers.{Says, gives, refuses, count_says}
-use Rattle.checks.specs.declared.Counted.{Counted}
+use Rattle.checks.specs.declared.refusals.Refusal.{Refusal}
 use Rattle.batch.specs.declared.Batch.{Batch}
 use Rattle.batch.specs.Batch.{records_from, used_entries, says_of, places_of}
 use Rattle.batch.specs.BatchStatements.{Left}
@@ -44,7 +44,7 @@ pub record SummedUp (es : List ℕ) (r : Summary) : Type 0 where
 -- one is still tried.": the calls one after another, each with the buffers as the one before left them
 pub data Singly (c : Calls) : (records : List (List ℕ)) (work left : List ℕ) (answers : List (Says ℕ)) (work' left' : List ℕ) → Type 0 where
   none : {work left : List ℕ} → Singly c [] work left [] work left
-  next : {w work left work₁ left₁ work' left' : List ℕ} {ws : List (List ℕ)} {a : Counted} {answers : List (Says ℕ)} → c.PieceCut w work left a work₁ left₁
+  next : {w work left work₁ left₁ work' left' : List ℕ} {ws : List (List ℕ)} {a : Result ℕ Refusal} {answers : List (Says ℕ)} → c.PieceCut w work left a work₁ left₁
       → Singly c ws work₁ (drop (used_entries (count_says a)) left₁) answers work' left'
       → Singly c (w ∷ ws) work left (count_says a ∷ answers) work' (take (used_entries (count_says a)) left₁ ++ left')
 
@@ -60,7 +60,7 @@ pub record CardAnswered (c : Calls) (bytes es work pairs : List ℕ) (r : Batch)
 
 -- ---- request 107, the answer for a record w that is not refused
 
-pub record RepetitionsListed (w out : List ℕ) (r : Counted) (out' : List ℕ) : Type 0 where
+pub record RepetitionsListed (w out : List ℕ) (r : Result ℕ Refusal) (out' : List ℕ) : Type 0 where
   pub listed : List Triple
   -- "List every maximal repetition: first place, end and period. .. Marks belong to none and end their neighbours."
   pub sound : (t : Triple) → Memᴰ t listed → IsSeparatedRun w t

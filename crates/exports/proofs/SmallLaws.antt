@@ -6,6 +6,7 @@ use mathlib.Core.List.{List, [], ◌∷◌, ◌++◌}
 use Prim.Native.Nat.{ℕ, zero, suc, ◌≤◌}
 use native.Mathlib.Omega.{arith}
 use lib.ListN.{length, get_or}
+use Rattle.std.specs.Prelude.{Result}
 use Rattle.words.specs.Separated.{separated_icfl_ends, separated_breaks}
 use Rattle.theory.specs.Orders.CommonWithin.{common-within-short}
 use Rattle.theory.specs.Places.EndsRise.{rises-few}
@@ -14,12 +15,10 @@ use Rattle.theory.proofs.Stretches.Factors.{separated-cfl-in-ends-rise}
 use Rattle.theory.specs.Stretches.StretchBreaks.{separated-breaks-few}
 use Rattle.theory.proofs.Stretches.SeparatedRuns.{separated-runs-few}
 use Rattle.conditions.proofs.RecordEndsLaws.{listed}
-use Rattle.checks.specs.Lines.{Line, Door, tried, decided, ◌unless◌then◌, Accepted}
+use Rattle.checks.specs.Lines.{Line, Door, tried, decided, ◌unless◌then◌, Accepted, Checked, Passed, Refused}
 use Rattle.checks.specs.Doors.{Guards}
 use Rattle.checks.specs.Answers.{Says, gives, refuses, count_says}
-use Rattle.checks.specs.declared.Checked.{Checked}
-use Rattle.checks.specs.declared.Checked.TheVariants.{Passed, Refused}
-use Rattle.checks.specs.declared.Counted.{Counted}
+use Rattle.checks.specs.declared.refusals.Refusal.{Refusal}
 use Rattle.checks.proofs.LineLaws.{both-passed, unmet}
 use Rattle.checks.proofs.RecordLaws.{accepted}
 use Rattle.extension.specs.declared.Extension.{Extension}
@@ -65,17 +64,17 @@ single-small : (door : List Line) (w work pairs : List ℕ) → Guards door w �
 single-small door w work pairs g =
     count_small door (icfl_lines w (length work) (length pairs)) w g (omega (arith, rises-few (separated-icfl-ends-rise w))) refl
 
-pub icfl-small : {door : List Line} {w work pairs work' pairs' : List ℕ} {r : Counted} → Guards door w → IcflDone door w work pairs r work' pairs'
+pub icfl-small : {door : List Line} {w work pairs work' pairs' : List ℕ} {r : Result ℕ Refusal} → Guards door w → IcflDone door w work pairs r work' pairs'
     → SmallCount (count_says r)
 icfl-small {door} {w} {work} {pairs} g f = rw f.answer (single-small door w work pairs g)
 
-pub cfl-in-small : (door : List Line) (w ends : List ℕ) {ends' : List ℕ} {r : Counted} → Guards door w → CflInDone door w ends r ends' → SmallCount (count_says r)
+pub cfl-in-small : (door : List Line) (w ends : List ℕ) {ends' : List ℕ} {r : Result ℕ Refusal} → Guards door w → CflInDone door w ends r ends' → SmallCount (count_says r)
 cfl-in-small door w ends g f = count_small door (cfl_in_lines w (length ends)) w g (omega (arith, rises-few (separated-cfl-in-ends-rise w))) f.answer
 
-pub table-small : (door : List Line) (w out : List ℕ) {out' : List ℕ} {r : Counted} → Guards door w → Tabled door w out r out' → SmallCount (count_says r)
+pub table-small : (door : List Line) (w out : List ℕ) {out' : List ℕ} {r : Result ℕ Refusal} → Guards door w → Tabled door w out r out' → SmallCount (count_says r)
 table-small door w out g f = count_small door (table_lines w (length out)) w g (omega arith) f.answer
 
-pub runs-small : (door : List Line) (w out : List ℕ) {out' : List ℕ} {r : Counted} → Guards door w → RunsDone door w out r out' → SmallCount (count_says r)
+pub runs-small : (door : List Line) (w out : List ℕ) {out' : List ℕ} {r : Result ℕ Refusal} → Guards door w → RunsDone door w out r out' → SmallCount (count_says r)
 runs-small door w out g f = count_small door (runs_lines w (length out)) w g (separated-runs-few w) f.answer
 
 -- ---- the cut with breaks

@@ -1,5 +1,5 @@
 -- The scan's loop and the walk along its table, over plain lists; and the verdict that they come to.
-use mathlib.Core.Path.{◌≡◌, refl, subst, ◌∙◌}
+use mathlib.Core.Path.{◌≡◌, refl, sym, subst, ◌∙◌}
 use mathlib.Core.List.{List}
 use Prim.Native.Nat.{ℕ, suc, ◌+◌, ◌-◌, ◌≤◌, ◌<◌}
 use native.Mathlib.Numerals.{add-one}
@@ -33,19 +33,23 @@ pub record Going (w work₀ work : List ℕ) (s : Scan) : Type 0 where
 pub scan-starts : (w work : List ℕ) (s : Scan) → TestRoom w work → s ≡ start_state → Going w work work s
 scan-starts w work s f e = rw e (record { scanned = scanned-one w f.nonempty; table = λ k l. absurd (omega arith); kept = refl; long = refl })
 
-pub scan-goes-on : {w work₀ work : List ℕ} {s : Scan} (t : Scan) → Going w work₀ work s → TestRoom w work₀ → s.length < length w
-    → get_or w s.length 0 ≤ get_or w s.border 0 → t ≡ step_state s (get_or w s.length 0) (get_or w s.border 0)
-    → Going w work₀ (set work (s.length - 1) s.border) t
-scan-goes-on {w} {work₀} {work} {s} t g f l m e =
-    let a = stepped w s t g.scanned l m e in
-    let b : t.length - 1 ≡ suc (s.length - 1) = omega (arith, g.scanned.shorter, a.longer) in
-    let d : suc (s.length - 1) ≡ s.length = omega (arith, g.scanned.shorter) in
-    record {
-      scanned = a.scanned;
-      table = rw b (table-set w work (s.length - 1) s.border g.table (omega (arith, g.long, f.entries)) (rw d g.scanned));
-      kept = drop-set-lt (length w) work (s.length - 1) s.border (omega arith) ∙ g.kept;
-      long = length-set work (s.length - 1) s.border ∙ g.long;
-    }
+pub scan-goes-on : {w work₀ work : List ℕ} {s : Scan} (t : Scan) {n : ℕ} → Going w work₀ work s → s.length ≡ n → TestRoom w work₀ → n < length w
+    → get_or w n 0 ≤ get_or w s.border 0 → t ≡ step_state s (get_or w n 0) (get_or w s.border 0)
+    → Going w work₀ (set work (n - 1) s.border) t × (t.length ≡ n + 1)
+scan-goes-on {w} {work₀} {work} {s} t {n} g here f l m e =
+    let step = subst (λ (k : ℕ). t ≡ step_state s (get_or w k 0) (get_or w s.border 0)) (sym here) e in
+    let a = stepped w s t g.scanned (rw here l) (rw here m) step in
+    let b : t.length - 1 ≡ suc (n - 1) = omega (arith, g.scanned.shorter, a.longer, here) in
+    let d : suc (n - 1) ≡ s.length = omega (arith, g.scanned.shorter, here) in
+    let c : n - 1 ≡ s.length - 1 = omega (arith, here) in (
+      record {
+        scanned = a.scanned;
+        table = rw b (table-set w work (n - 1) s.border (rw c g.table) (omega (arith, g.long, f.entries, l)) (rw d g.scanned));
+        kept = drop-set-lt (length w) work (n - 1) s.border (omega (arith, l)) ∙ g.kept;
+        long = length-set work (n - 1) s.border ∙ g.long;
+      },
+      rw (← here) a.longer,
+    )
 
 pub scan-stops : {w work₀ work : List ℕ} {s : Scan} → Going w work₀ work s → Stops w s.length s.border → Scanning w work₀ s work
 scan-stops g h = record { rests = record { scanned = g.scanned; stops = h }; table = g.table; kept = g.kept }

@@ -25,8 +25,7 @@ fn scan_borders(word: &[u8], work: &mut [u16]) -> Scan
     ensures { Scanning word.now work.old result work.new }
 {
     let mut s = Scan::start();
-    while s.length < word.len() {
-        let at = s.length;
+    for at in 1..word.len() {
         let border = s.border;
         let new = word[at];
         let met = word[border];

@@ -10,6 +10,7 @@ use borrow.Author.Tests.{not-true}
 use lib.ListN.{length, take}
 use lib.Seq.{length-slice}
 use lib.Dec.{eqb}
+use Rattle.std.specs.Prelude.{Result, Ok, Err}
 use Rattle.words.specs.Words.{most_letters}
 use Rattle.words.specs.Separated.{separated_icfl_ends}
 use Rattle.words.specs.Pairs.{separated_pairs}
@@ -17,11 +18,9 @@ use Rattle.theory.proofs.Stretches.RecordPairs.{pairs-entries}
 use Rattle.buffers.specs.Buffers.{cleared, written}
 use Rattle.buffers.proofs.BufferLaws.{cleared-kept}
 use Rattle.buffers.proofs.PartLaws.{part, part-is}
-use Rattle.checks.specs.Lines.{Line, tried, ◌unless◌then◌, work_line, result_line, Accepted}
-use Rattle.checks.specs.Answers.{number_of, Says, gives, refuses, Filled}
-use Rattle.checks.specs.declared.Checked.{Checked}
-use Rattle.checks.specs.declared.Checked.TheVariants.{Passed}
-use Rattle.checks.specs.declared.Counted.{Counted}
+use Rattle.checks.specs.Lines.{Line, tried, ◌unless◌then◌, work_line, result_line, Accepted, Checked, Passed}
+use Rattle.checks.specs.Answers.{checked_number, Says, gives, refuses, Filled}
+use Rattle.checks.specs.declared.refusals.Refusal.{Refusal}
 use Rattle.checks.proofs.LineLaws.{
   IsRefused,
   refused,
@@ -74,7 +73,7 @@ module _ (w work : List ℕ) (more : List Line) (fours : every_number (λ m. eqb
       ≡ (cleared (3 * length w) work unless work_lines w (length work) then (λ number. work))
   worked-by-3 = unless-but (cleared (3 * length w) work) work (work_lines w (length work)) more 4 refl fours
 
-  pub refused-worked : {k : Checked} {m : ℕ} → k ≡ tried (work_lines w (length work)) → IsRefused k → m ≡ number_of k → Worked work
+  pub refused-worked : {k : Checked} {m : ℕ} → k ≡ tried (work_lines w (length work)) → IsRefused k → m ≡ checked_number k → Worked work
   refused-worked e h z = refused (work_lines w (length work)) (cleared (3 * length w) work) (λ number. work) e h z ∙ sym worked-by-3
 
   pub cut-worked : tried (work_lines w (length work)) ≡ Passed → {found : Found} {work₁ work₂ : List ℕ} → CutFound w work found work₁
@@ -85,7 +84,7 @@ module _ (w work : List ℕ) (more : List Line) (fours : every_number (λ m. eqb
 abbrev pub NoFour : List Line → Type 0
 NoFour door = every_number (λ m. not (eqb m 4)) door ≡ true
 
-pub at-door-worked : (door own : List Line) (n : ℕ) (work : List ℕ) → NoFour door → {k : Checked} {m : ℕ} → k ≡ tried door → IsRefused k → m ≡ number_of k
+pub at-door-worked : (door own : List Line) (n : ℕ) (work : List ℕ) → NoFour door → {k : Checked} {m : ℕ} → k ≡ tried door → IsRefused k → m ≡ checked_number k
     → work ≡ cleared n work unless door ++ own then work_after n work
 at-door-worked door own n work no-four {m = m} e h z =
     let other : eqb m 4 ≡ false = not-true (eqb m 4) (refused-tested (λ i. not (eqb i 4)) door no-four e h z) in
@@ -94,7 +93,7 @@ at-door-worked door own n work no-four {m = m} e h z =
 -- ---- the piece cut
 
 -- it fills the result buffer
-pub icfl-filled : {door : List Line} {w work pairs : List ℕ} {r : Counted} {work' pairs' : List ℕ} → IcflDone door w work pairs r work' pairs'
+pub icfl-filled : {door : List Line} {w work pairs : List ℕ} {r : Result ℕ Refusal} {work' pairs' : List ℕ} → IcflDone door w work pairs r work' pairs'
     → Filled (door ++ icfl_lines w (length work) (length pairs)) (length (separated_icfl_ends w)) (separated_pairs w) pairs r pairs'
 icfl-filled d = record { answer = d.answer; result = d.result }
 
@@ -105,12 +104,12 @@ module _ (w work buffer : List ℕ) where
   abbrev lines : List Line
   lines = icfl_lines w (length work) (length buffer)
 
-  done : {r : Counted} {work' buffer' : List ℕ} → Filled lines (length (separated_icfl_ends w)) (separated_pairs w) buffer r buffer'
+  done : {r : Result ℕ Refusal} {work' buffer' : List ℕ} → Filled lines (length (separated_icfl_ends w)) (separated_pairs w) buffer r buffer'
       → (work' ≡ cleared (3 * length w) work unless lines then work_after (3 * length w) work) → IcflDone [] w work buffer r work' buffer'
   done f y = record { answer = f.answer; result = f.result; worked = y }
 
-  pub work-refused : {k : Checked} {m : ℕ} → k ≡ tried (work_lines w (length work)) → IsRefused k → m ≡ number_of k
-      → IcflDone [] w work buffer (Counted.Refused m) work buffer
+  pub work-refused : {k : Checked} {m : ℕ} → k ≡ tried (work_lines w (length work)) → IsRefused k → m ≡ checked_number k
+      → IcflDone [] w work buffer (Err m) work buffer
   work-refused e h z = done (filled-refused _ _ _ (refused-first (work_lines w (length work)) room e h) h z) (refused-worked w work room refl e h z)
 
   module _ (p : tried (work_lines w (length work)) ≡ Passed) {found : Found} {work₁ work₂ : List ℕ} (x : CutFound w work found work₁)
@@ -119,13 +118,13 @@ module _ (w work buffer : List ℕ) where
     fourth : {k : Checked} → k ≡ tried (result_line (length buffer) (2 * (length w - found.first)) ∷ []) → k ≡ tried lines
     fourth e = passed_first (work_lines w (length work)) room p (rw (ends-count x l) at e)
 
-    pub pairs-refused : {k : Checked} {m : ℕ} → k ≡ tried (result_line (length buffer) (2 * (length w - found.first)) ∷ []) → IsRefused k → m ≡ number_of k
-        → IcflDone [] w work buffer (Counted.Refused m) work₂ buffer
+    pub pairs-refused : {k : Checked} {m : ℕ} → k ≡ tried (result_line (length buffer) (2 * (length w - found.first)) ∷ []) → IsRefused k → m ≡ checked_number k
+        → IcflDone [] w work buffer (Err m) work₂ buffer
     pairs-refused e h z = done (filled-refused _ _ _ (fourth e) h z) (cut-worked w work room refl p x y)
 
     pub pairs-written : {buffer' : List ℕ} → tried (result_line (length buffer) (2 * (length w - found.first)) ∷ []) ≡ Passed
         → buffer' ≡ written (separated_pairs w) buffer
-        → IcflDone [] w work buffer (Counted.Count (length w - found.first)) work₂ buffer'
+        → IcflDone [] w work buffer (Ok (length w - found.first)) work₂ buffer'
     pairs-written r e = done (filled-done (sym (fourth (sym r))) (ends-count x l) e) (cut-worked w work room refl p x y)
 
 -- the two ways through a door
@@ -136,15 +135,15 @@ module _ (door : List Line) (w work buffer : List ℕ) where
   abbrev count : Says ℕ
   count = gives (length (separated_icfl_ends w))
 
-  pub icfl-at-door : NoFour door → {k : Checked} {m : ℕ} → k ≡ tried door → IsRefused k → m ≡ number_of k
-      → IcflDone door w work buffer (Counted.Refused m) work buffer
+  pub icfl-at-door : NoFour door → {k : Checked} {m : ℕ} → k ≡ tried door → IsRefused k → m ≡ checked_number k
+      → IcflDone door w work buffer (Err m) work buffer
   icfl-at-door no-four e h z = record {
     answer = refused-at-door door own count (λ (i : ℕ). refuses i) e h z;
     result = refused-at-door door own (written (separated_pairs w) buffer) (λ (i : ℕ). buffer) e h z;
     worked = at-door-worked door own (3 * length w) work no-four e h z;
   }
 
-  pub icfl-past-door : {r : Counted} {work' buffer' : List ℕ} → tried door ≡ Passed → IcflDone [] w work buffer r work' buffer'
+  pub icfl-past-door : {r : Result ℕ Refusal} {work' buffer' : List ℕ} → tried door ≡ Passed → IcflDone [] w work buffer r work' buffer'
       → IcflDone door w work buffer r work' buffer'
   icfl-past-door p d = record {
     answer = d.answer ∙ past-door door own count (λ (i : ℕ). refuses i) p;
@@ -154,7 +153,7 @@ module _ (door : List Line) (w work buffer : List ℕ) where
 
 -- ---- what a result tells: as many pairs as the answer says stand at the buffer's front
 
-module _ {door : List Line} {w work buffer : List ℕ} {n : ℕ} {work' buffer' : List ℕ} (d : IcflDone door w work buffer (Counted.Count n) work' buffer') where
+module _ {door : List Line} {w work buffer : List ℕ} {n : ℕ} {work' buffer' : List ℕ} (d : IcflDone door w work buffer (Ok n) work' buffer') where
   pub pairs-counted : n ≡ length (separated_icfl_ends w)
   pairs-counted = (filled-counted (icfl-filled d)).1
 

@@ -1,11 +1,11 @@
 -- DEFINITIONS. What the piece cut answers, writes and leaves in the work buffer (IcflDone).
-use Rattle.std.specs.Prelude.{◌≡◌, true, false, List, [], ◌∷◌, ◌++◌, ℕ, ◌*◌, length, eqb}
+use Rattle.std.specs.Prelude.{◌≡◌, true, false, List, [], ◌∷◌, ◌++◌, ℕ, ◌*◌, length, eqb, Result}
 use Rattle.words.specs.Separated.{separated_icfl_ends}
 use Rattle.words.specs.Pairs.{separated_pairs}
 use Rattle.buffers.specs.Buffers.{cleared, written}
 use Rattle.checks.specs.Lines.{Line, ◌unless◌then◌, work_line, result_line}
 use Rattle.checks.specs.Answers.{Says, gives, refuses, count_says}
-use Rattle.checks.specs.declared.Counted.{Counted}
+use Rattle.checks.specs.declared.refusals.Refusal.{Refusal}
 
 -- the piece cut's own lines, tried past those at its door: 3 before its work, then 4, which "counts both numbers" of an entry (request 108)
 abbrev pub icfl_lines : List ℕ → ℕ → ℕ → List Line
@@ -28,7 +28,7 @@ abbrev pub icfl_work : (door : List Line) (w work pairs : List ℕ) → List ℕ
 icfl_work door w work pairs = cleared (3 * length w) work unless door ++ icfl_lines w (length work) (length pairs) then work_after (3 * length w) work
 
 -- the call's promise
-pub record IcflDone (door : List Line) (w work pairs : List ℕ) (r : Counted) (work' pairs' : List ℕ) : Type 0 where
+pub record IcflDone (door : List Line) (w work pairs : List ℕ) (r : Result ℕ Refusal) (work' pairs' : List ℕ) : Type 0 where
   pub answer : count_says r ≡ icfl_answer door w work pairs
   pub result : pairs' ≡ icfl_result door w work pairs
   pub worked : work' ≡ icfl_work door w work pairs

@@ -8,10 +8,8 @@ use lib.ListN.{length}
 use Rattle.words.specs.Separated.{separated_icfl_ends, separated_breaks}
 use Rattle.words.specs.Pairs.{separated_pairs}
 use Rattle.buffers.specs.Buffers.{cleared, written}
-use Rattle.checks.specs.Lines.{Line, tried, result_line}
-use Rattle.checks.specs.Answers.{number_of, Says, gives, refuses}
-use Rattle.checks.specs.declared.Checked.{Checked}
-use Rattle.checks.specs.declared.Checked.TheVariants.{Passed}
+use Rattle.checks.specs.Lines.{Line, tried, result_line, Checked, Passed}
+use Rattle.checks.specs.Answers.{checked_number, Says, gives, refuses}
 use Rattle.checks.proofs.LineLaws.{IsRefused, refused, refused-first, passed_first, past-door, refused-at-door, unmet}
 use Rattle.breaks.specs.declared.Found.{Found}
 use Rattle.breaks.specs.Gathering.{CutFound}
@@ -35,7 +33,7 @@ module _ (w work pairs breaks : List ℕ) where
   abbrev result : Says (ℕ × ℕ)
   result = gives (length (separated_icfl_ends w), length (separated_breaks w))
 
-  pub breaks-work-refused : {k : Checked} {m : ℕ} → k ≡ tried (work_lines w (length work)) → IsRefused k → m ≡ number_of k
+  pub breaks-work-refused : {k : Checked} {m : ℕ} → k ≡ tried (work_lines w (length work)) → IsRefused k → m ≡ checked_number k
       → BreaksDone [] w work pairs breaks (CountedBreaks.Refused m) work pairs breaks
   breaks-work-refused {k} e h z =
       let first : k ≡ tried lines = refused-first (work_lines w (length work)) room e h in
@@ -53,7 +51,7 @@ module _ (w work pairs breaks : List ℕ) where
     fourth e = passed_first (work_lines w (length work)) room p (rw (ends-count x l, x.breaks) at e)
 
     pub breaks-refused : {k : Checked} {m : ℕ} → k ≡ tried (room_lines (length pairs) (length breaks) (length w - found.first) found.breaks)
-        → IsRefused k → m ≡ number_of k → BreaksDone [] w work pairs breaks (CountedBreaks.Refused m) work₂ pairs breaks
+        → IsRefused k → m ≡ checked_number k → BreaksDone [] w work pairs breaks (CountedBreaks.Refused m) work₂ pairs breaks
     breaks-refused e h z = record {
       answer = refused lines result (λ (i : ℕ). refuses i) (fourth e) h z;
       pairs-are = refused lines (written (separated_pairs w) pairs) (λ (i : ℕ). pairs) (fourth e) h z;
@@ -82,7 +80,7 @@ module _ (door : List Line) (w work pairs breaks : List ℕ) where
   abbrev counts : Says (ℕ × ℕ)
   counts = gives (length (separated_icfl_ends w), length (separated_breaks w))
 
-  pub breaks-at-door : NoFour door → {k : Checked} {m : ℕ} → k ≡ tried door → IsRefused k → m ≡ number_of k
+  pub breaks-at-door : NoFour door → {k : Checked} {m : ℕ} → k ≡ tried door → IsRefused k → m ≡ checked_number k
       → BreaksDone door w work pairs breaks (CountedBreaks.Refused m) work pairs breaks
   breaks-at-door no-four e h z = record {
     answer = refused-at-door door own counts (λ (i : ℕ). refuses i) e h z;

@@ -4,9 +4,7 @@ use Rattle.std.proofs.lemmas.Bool.{cases_lt}
 use Rattle.std.proofs.Math.Logic.{inl, inr}
 use lib.Seq.{take-append_seam}
 use borrow.Author.Tests.{ne_eqb, lt-ltb}
-use Rattle.checks.specs.declared.Checked.{Checked}
-use Rattle.checks.specs.declared.Checked.TheVariants.{Refused}
-use Rattle.checks.specs.Lines.{◌when◌, tried, decided}
+use Rattle.checks.specs.Lines.{◌when◌, tried, decided, Checked, Refused}
 use Rattle.listing.specs.Listing.{listing_door, listing_of, refused_line, Listed}
 
 -- the second of two lines is met

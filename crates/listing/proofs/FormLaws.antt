@@ -17,8 +17,7 @@ use Rattle.theory.specs.Places.PairedLists.{paired-inside}
 use Rattle.theory.specs.Stretches.Factors.{separated-icfl-ends-rise}
 use Rattle.theory.proofs.Stretches.Factors.{separated-cfl-in-ends-rise}
 use Rattle.theory.proofs.Stretches.RecordPairs.{pairs-entries, pairs-paired}
-use Rattle.checks.specs.Lines.{tried, record_lines, Accepted}
-use Rattle.checks.specs.declared.Checked.TheVariants.{Passed}
+use Rattle.checks.specs.Lines.{tried, record_lines, Accepted, Passed}
 use Rattle.checks.proofs.RecordLaws.{record-passes}
 use Rattle.summary.specs.Summary.{lengths_from, greatest, summary_of}
 use Rattle.summary.specs.declared.Summary.{Summary}

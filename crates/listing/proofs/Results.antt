@@ -8,6 +8,7 @@ use native.Mathlib.Nat.{zero-add}
 use native.Mathlib.Omega.{arith}
 use borrow.Author.Tests.{le-ltb}
 use lib.ListN.{length, take}
+use Rattle.std.specs.Prelude.{Result, Ok, Err}
 use Rattle.words.specs.Words.{most_letters}
 use Rattle.words.specs.Separated.{separated_icfl_ends, separated_cfl_in_ends}
 use Rattle.theory.specs.Places.EndsRise.{rises-few}
@@ -16,11 +17,9 @@ use Rattle.theory.proofs.Stretches.Factors.{separated-cfl-in-ends-rise}
 use Rattle.words.specs.Pairs.{separated_pairs}
 use Rattle.theory.proofs.Stretches.RecordPairs.{pairs-ends}
 use Rattle.buffers.specs.Buffers.{cleared, written}
-use Rattle.checks.specs.declared.Checked.{Checked}
-use Rattle.checks.specs.declared.Checked.TheVariants.{Passed}
-use Rattle.checks.specs.declared.Counted.{Counted}
-use Rattle.checks.specs.Lines.{Line, tried, Accepted}
-use Rattle.checks.specs.Answers.{number_of, Filled}
+use Rattle.checks.specs.declared.refusals.Refusal.{Refusal}
+use Rattle.checks.specs.Lines.{Line, tried, Accepted, Checked, Passed}
+use Rattle.checks.specs.Answers.{checked_number, Filled}
 use Rattle.checks.proofs.LineLaws.{IsRefused, not-both, refused, all_pass, filled-front, filled-number}
 use Rattle.checks.proofs.RecordLaws.{record-passes}
 use Rattle.pairs.proofs.PairsLaws.{own-pairs}
@@ -42,7 +41,7 @@ module _ {work pairs strict out : List ℕ} (room : ListingRoom work pairs stric
   pub refused-fits : FitsAt 0 (refused_line number) out
   refused-fits = record { inside = omega (arith, room.writing, refused-most number (omega arith)) }
 
-  pub refused-listed : {w : List ℕ} {k : Checked} {n : ℕ} {out' : List ℕ} → k ≡ tried (listing_door w) → IsRefused k → number ≡ number_of k
+  pub refused-listed : {w : List ℕ} {k : Checked} {n : ℕ} {out' : List ℕ} → k ≡ tried (listing_door w) → IsRefused k → number ≡ checked_number k
       → WroteAt 0 (refused_line number) out n out' → Listed w work pairs strict out n work pairs strict out'
   unfolding listing_of
   refused-listed {w} e h z x =
@@ -58,10 +57,10 @@ module _ {work pairs strict out : List ℕ} (room : ListingRoom work pairs stric
 -- ---- a record that is accepted
 
 -- the answer of a cut that passes its lines tells a number
-counted : {lines : List Line} {k : ℕ} {vs buffer buffer' : List ℕ} {r : Counted} → Filled lines k vs buffer r buffer' → tried lines ≡ Passed
-    → r ≡ Counted.Count (count_of r)
-counted {r = Counted.Count m} f e = refl
-counted {r = Counted.Refused number} f e = absurd (not-both (filled-number f).0 e)
+counted : {lines : List Line} {k : ℕ} {vs buffer buffer' : List ℕ} {r : Result ℕ Refusal} → Filled lines k vs buffer r buffer' → tried lines ≡ Passed
+    → r ≡ Ok (count_of r)
+counted {r = Ok m} f e = refl
+counted {r = Err number} f e = absurd (not-both (filled-number f).0 e)
 
 module _ (w : List ℕ) (a : Accepted w) where
   lets-in : tried (listing_door w) ≡ Passed
@@ -105,10 +104,10 @@ module _ (w pairs strict out : List ℕ) (c : CutLists w pairs strict out) (s : 
   lines_are = rw (listing-is w c.accepted, summary-is, c.pieces, c.stricts)
 
 -- the piece cut answers a number that is no greater than the length
-pub pieces-few : {w work pairs work' pairs' : List ℕ} {r : Counted} {pieces : ℕ} → Accepted w → IcflDone [] w work pairs r work' pairs' → pieces ≡ count_of r
+pub pieces-few : {w work pairs work' pairs' : List ℕ} {r : Result ℕ Refusal} {pieces : ℕ} → Accepted w → IcflDone [] w work pairs r work' pairs' → pieces ≡ count_of r
     → pieces ≤ most_letters
-pieces-few {w} {r = Counted.Count n} a cut p = omega (arith, p, pairs-counted cut, rises-few (separated-icfl-ends-rise w), a.short)
-pieces-few {r = Counted.Refused number} a cut p = omega (arith, p)
+pieces-few {w} {r = Ok n} a cut p = omega (arith, p, pairs-counted cut, rises-few (separated-icfl-ends-rise w), a.short)
+pieces-few {r = Err number} a cut p = omega (arith, p)
 
 -- both cuts of a record that was accepted, and the entries that their answers tell of
 pub record BothCut (w work pairs strict out : List ℕ) (entries stricts : ℕ) (work' pairs' strict' : List ℕ) : Type 0 where
@@ -117,14 +116,14 @@ pub record BothCut (w work pairs strict out : List ℕ) (entries stricts : ℕ) 
   pub lists : CutLists w (take entries pairs') (take stricts strict') out
   pub listed : (n : ℕ) (out' : List ℕ) → WroteAt 0 (listing_of w) out n out' → Listed w work pairs strict out n work' pairs' strict' out'
 
-pub both-cut : {w work pairs strict out work' pairs' strict' : List ℕ} {r t : Counted} {pieces entries stricts : ℕ} → ListingRoom work pairs strict out
+pub both-cut : {w work pairs strict out work' pairs' strict' : List ℕ} {r t : Result ℕ Refusal} {pieces entries stricts : ℕ} → ListingRoom work pairs strict out
     → Accepted w → IcflDone [] w work pairs r work' pairs' → pieces ≡ count_of r → entries ≡ 2 * pieces → CflInDone [] w strict t strict' → stricts ≡ count_of t
     → BothCut w work pairs strict out entries stricts work' pairs' strict'
 both-cut {w} {work} {pairs} {strict} {pieces = pieces} {stricts = stricts} room a cut p n strict-cut s =
     let passes = icfl-passes w a (length work) (length pairs) room.working room.cutting in
     let strict-passes = cfl-in-passes w a (length strict) room.strict_cutting in
-    let given : IcflDone [] w work pairs (Counted.Count pieces) _ _ = rw (counted (icfl-filled cut) passes, ← p) at cut in
-    let strict-given : CflInDone [] w strict (Counted.Count stricts) _ = rw (counted strict-cut strict-passes, ← s) at strict-cut in
+    let given : IcflDone [] w work pairs (Ok pieces) _ _ = rw (counted (icfl-filled cut) passes, ← p) at cut in
+    let strict-given : CflInDone [] w strict (Ok stricts) _ = rw (counted strict-cut strict-passes, ← s) at strict-cut in
     let pieces-front = pairs-front given in
     let stricts-front = filled-front strict-given in
     rw n (record {

@@ -1,10 +1,10 @@
 -- What the functions that write a listing ask and promise. No call's promise cites this file.
-use Rattle.std.specs.Prelude.{◌≡◌, List, [], ◌∷◌, ℕ, ◌+◌, ◌*◌, ◌≤◌, length}
+use Rattle.std.specs.Prelude.{◌≡◌, List, [], ◌∷◌, ℕ, ◌+◌, ◌*◌, ◌≤◌, length, Result, Ok, Err}
 use Rattle.words.specs.Words.{most_letters}
 use Rattle.words.specs.Separated.{separated_cfl_in_ends}
 use Rattle.words.specs.Pairs.{separated_pairs}
 use Rattle.checks.specs.Lines.{Accepted}
-use Rattle.checks.specs.declared.Counted.{Counted}
+use Rattle.checks.specs.declared.refusals.Refusal.{Refusal}
 use Rattle.summary.specs.declared.Summary.{Summary}
 use Rattle.listing.specs.Listing.{lines_of}
 
@@ -34,6 +34,6 @@ pub record ListingRoom (work pairs strict out : List ℕ) : Type 0 where
   pub writing : 15 * most_letters + 256 ≤ length out
 
 -- the number that an answer tells of, 0 beside a refusal
-abbrev pub count_of : Counted → ℕ
-count_of (Counted.Count n) = n
-count_of (Counted.Refused number) = 0
+abbrev pub count_of : Result ℕ Refusal → ℕ
+count_of (Ok n) = n
+count_of (Err number) = 0

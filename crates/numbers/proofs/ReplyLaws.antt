@@ -11,9 +11,10 @@ use lib.ListN.{get_or-map, length, take, get_or, set, replicate, length-append, 
 use lib.Seq.{take-suc, set_at, length-take-le}
 use lib.Dec.{ltb}
 use borrow.Author.Tests.{ltb-true, ltb-false}
+use Rattle.std.specs.Prelude.{Ok}
 use Rattle.conditions.specs.Conditions.{most_records}
 use Rattle.checks.specs.Answers.{Says, gives, count_says}
-use Rattle.checks.specs.declared.Counted.{Counted}
+use Rattle.checks.specs.declared.refusals.Refusal.{Refusal}
 use Rattle.batch.specs.declared.Batch.{Batch}
 use Rattle.batch.specs.declared.Place.{Place}
 use Rattle.batch.specs.Batch.{says_of, places_of}
@@ -58,8 +59,8 @@ placed-small (a ∷ answers) n zero h = h
 placed-small (a ∷ answers) n (suc i) h = placed-small answers n i h
 
 -- what the place at i says
-says_at : (places : List Place) (i : ℕ) → count_says (get_or places i (record { answer = Counted.Count 0 })).answer ≡ get_or (says_of places) i blank
-says_at places i = sym (get_or-map (λ (p : Place). count_says p.answer) places i (record { answer = Counted.Count 0 }))
+says_at : (places : List Place) (i : ℕ) → count_says (get_or places i (record { answer = Ok 0 })).answer ≡ get_or (says_of places) i blank
+says_at places i = sym (get_or-map (λ (p : Place). count_says p.answer) places i (record { answer = Ok 0 }))
 
 blank-past : (ps : List (Says ℕ)) (m i : ℕ) → length ps ≤ i → i ≤ length ps + m
     → take i (ps ++ replicate m blank) ++ replicate (length ps + m - i) blank ≡ ps ++ replicate m blank
@@ -90,11 +91,11 @@ pub replied-starts : (places : List Place) → Replied places (map reply_of (pla
 replied-starts places = record { front = refl; inside = omega arith }
 
 module _ {b : Batch} {records : ℕ} (s : SmallBatch b records) where
-  pub place-small : (i : ℕ) → SmallCount (count_says (get_or b.places i (record { answer = Counted.Count 0 })).answer)
+  pub place-small : (i : ℕ) → SmallCount (count_says (get_or b.places i (record { answer = Ok 0 })).answer)
   place-small i = rw (says_at b.places i, s.placed) (placed-small s.answers (most_records - length s.answers) i (s.small i))
 
   pub replied-on : {replies : List Reply} {i : ℕ} (x : Reply) → Replied b.places replies i → i < most_records
-      → (x.refusal, x.count) ≡ count_numbers (get_or b.places i (record { answer = Counted.Count 0 })).answer → Replied b.places (set replies i x) (i + 1)
+      → (x.refusal, x.count) ≡ count_numbers (get_or b.places i (record { answer = Ok 0 })).answer → Replied b.places (set replies i x) (i + 1)
   replied-on {replies} {i} x g l e =
       let said = says_of b.places in
       let full : length said ≡ most_records = ap length s.placed ∙ placed-length s.answers s.few in

@@ -1,8 +1,8 @@
 -- DEFINITIONS. The answers of the library's calls as numbers: the refusal's number, 0 for a result, and beside it the result's numbers, 0 with a refusal.
-use Rattle.std.specs.Prelude.{◌≡◌, List, [], map, ℕ, ◌≤◌, ◌<◌, length, get_or, ℤ, pos}
+use Rattle.std.specs.Prelude.{◌≡◌, List, [], map, ℕ, ◌≤◌, ◌<◌, length, get_or, ℤ, pos, Result}
 use Rattle.conditions.specs.Conditions.{most_records}
-use Rattle.checks.specs.Answers.{number_of, Says, gives, checked, values_or, count_says}
-use Rattle.checks.specs.declared.Counted.{Counted}
+use Rattle.checks.specs.Answers.{checked_number, Says, gives, checked, values_or, count_says}
+use Rattle.checks.specs.declared.refusals.Refusal.{Refusal}
 use Rattle.extension.specs.declared.Extension.{Extension}
 use Rattle.extension.specs.Extension.{test_says}
 use Rattle.icfl_breaks.specs.declared.CountedBreaks.{CountedBreaks}
@@ -16,10 +16,10 @@ use Rattle.numbers.specs.declared.Replies.{Replies}
 
 -- what is said, as numbers: the refusal's, 0 for a result, and beside it the values, `none` with a refusal
 abbrev pub numbers_or : {A : Type 0} → A → Says A → ℕ × A
-numbers_or none said = (number_of (checked said), values_or none said)
+numbers_or none said = (checked_number (checked said), values_or none said)
 
 -- the refusal, the count
-abbrev pub count_numbers : Counted → ℕ × ℕ
+abbrev pub count_numbers : Result ℕ Refusal → ℕ × ℕ
 count_numbers a = numbers_or 0 (count_says a)
 
 -- the refusal, L, |p| and |r|

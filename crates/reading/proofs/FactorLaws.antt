@@ -9,8 +9,7 @@ use Rattle.theory.specs.Places.EndsRise.{rises-inside, rises-at}
 use Rattle.theory.specs.Places.PairedLists.{paired-rise}
 use Rattle.pairs.specs.PairedList.{factor_begin}
 use Rattle.pairs.proofs.PairsLaws.{pairs-accepted}
-use Rattle.checks.specs.declared.Checked.TheVariants.{Passed}
-use Rattle.checks.specs.Lines.{tried}
+use Rattle.checks.specs.Lines.{tried, Passed}
 use Rattle.checks.proofs.LineLaws.{unmet}
 use Rattle.reading.specs.Factor.{factor_lines}
 

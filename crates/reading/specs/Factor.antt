@@ -4,7 +4,7 @@ use Rattle.std.proofs.Math.Seq.{slice}
 use Rattle.words.specs.Pairs.{ends_of}
 use Rattle.pairs.specs.PairedList.{factor_begin}
 use Rattle.checks.specs.Lines.{Line, tried, ◌unless◌then◌, pairs_line, number_line}
-use Rattle.checks.specs.Answers.{number_of}
+use Rattle.checks.specs.Answers.{checked_number}
 
 -- the reader's own lines, tried past those at its door: 7 and 8, of a paired list (request 108)
 abbrev pub factor_lines : List ℕ → List ℕ → ℕ → List Line
@@ -12,5 +12,5 @@ factor_lines w ps k = pairs_line ps (length w) ∷ number_line k (length (ends_o
 
 -- the reader's promise, by the lines at its door: the refusal's number, 0 for none, and the part, "and the part with a refusal is empty"
 pub record FactorAt (door : List Line) (w ps : List ℕ) (k : ℕ) (part : List ℕ) (number : ℕ) : Type 0 where
-  pub number_is : number ≡ number_of (tried (door ++ factor_lines w ps k))
+  pub number_is : number ≡ checked_number (tried (door ++ factor_lines w ps k))
   pub part-is : part ≡ slice (factor_begin (ends_of ps) k) (get_or (ends_of ps) k 0) w unless door ++ factor_lines w ps k then (λ n. [])

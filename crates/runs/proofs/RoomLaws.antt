@@ -8,9 +8,7 @@ use borrow.Author.Tests.{le-ltb}
 use lib.ListN.{length}
 use Rattle.words.specs.Runs.{separated_runs}
 use Rattle.theory.proofs.Stretches.SeparatedRuns.{separated-runs-fewer}
-use Rattle.checks.specs.Lines.{tried, result_line}
-use Rattle.checks.specs.declared.Checked.{Checked}
-use Rattle.checks.specs.declared.Checked.TheVariants.{Passed}
+use Rattle.checks.specs.Lines.{tried, result_line, Checked, Passed}
 use Rattle.checks.proofs.LineLaws.{all_pass}
 use Rattle.walking.specs.Walking.{WalkRoom, Walked}
 use Rattle.runs.specs.Room.{RoomAsked, RoomChecked}

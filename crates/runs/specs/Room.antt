@@ -1,8 +1,7 @@
 -- What the check of line 4 of the runs asks and promises. No call's promise cites this file.
 use Rattle.std.specs.Prelude.{◌≡◌, List, ℕ, ◌≤◌, length}
 use Rattle.words.specs.Words.{most_letters}
-use Rattle.checks.specs.Lines.{tried, Accepted}
-use Rattle.checks.specs.declared.Checked.{Checked}
+use Rattle.checks.specs.Lines.{tried, Accepted, Checked}
 use Rattle.runs.specs.Runs.{runs_lines}
 
 -- a record that was accepted, and the entries to work in

@@ -10,9 +10,7 @@ use Rattle.words.specs.Words.{most_letters}
 use Rattle.words.specs.Pairs.{ends_of}
 use Rattle.theory.specs.Places.EndsRise.{Rises, done, more}
 use Rattle.theory.specs.Places.EndsRise.{rises-few}
-use Rattle.checks.specs.declared.Checked.{Checked}
-use Rattle.checks.specs.declared.Checked.TheVariants.{Passed, Refused}
-use Rattle.checks.specs.Lines.{Line, tried, decided}
+use Rattle.checks.specs.Lines.{Line, tried, decided, Checked, Passed, Refused}
 use Rattle.checks.specs.Doors.{Guards}
 use Rattle.summary.specs.declared.Summary.{Summary}
 use Rattle.summary.specs.Summary.{summary_lines, lengths_from, bit_length_of, count_of, bands_of, empty_summary, summary_of, Summarized}

@@ -7,8 +7,7 @@ use lib.ListN.{length}
 use Rattle.words.specs.Words.{most_letters}
 use Rattle.theory.specs.Places.EndsRise.{Rises}
 use Rattle.theory.specs.Places.EndsRise.{rises-few, rises-inside, rises-at}
-use Rattle.checks.specs.declared.Checked.TheVariants.{Passed}
-use Rattle.checks.specs.Lines.{Line, tried, Accepted}
+use Rattle.checks.specs.Lines.{Line, tried, Accepted, Passed}
 use Rattle.checks.specs.Doors.{Guards}
 use Rattle.checks.proofs.LineLaws.{both-passed, unmet}
 use Rattle.words.specs.Pairs.{ends_of}

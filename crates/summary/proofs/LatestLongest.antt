@@ -15,11 +15,9 @@ use Rattle.theory.specs.Statements.{Adjacent, here, there}
 use Rattle.theory.specs.Places.Ends.{adjacent-cases, adjacent-one}
 use Rattle.theory.specs.Places.EndsRise.{Rises, done, more}
 use Rattle.theory.specs.Places.Parts.{rises-adjacent}
-use Rattle.checks.specs.declared.Checked.{Checked}
-use Rattle.checks.specs.declared.Checked.TheVariants.{Passed, Refused}
-use Rattle.checks.specs.Lines.{Line, tried, decided}
+use Rattle.checks.specs.Lines.{Line, tried, decided, Checked, Passed, Refused}
 use Rattle.checks.specs.Doors.{Guards}
-use Rattle.checks.specs.Answers.{number_of}
+use Rattle.checks.specs.Answers.{checked_number}
 use Rattle.checks.proofs.LineLaws.{not-both, every_number, every-joined, zero-passes}
 use Rattle.summary.specs.declared.Summary.{Summary}
 use Rattle.summary.specs.Summary.{summary_lines, lengths_from, greatest, start_of, count_of, summary_of, empty_summary, Summarized}
@@ -106,7 +104,7 @@ summary-latest {door} {w} {ps} g some s z =
     lines : List Line
     lines = door ++ summary_lines w ps
 
-    go : (k : Checked) → (number_of k ≡ 0 → k ≡ Passed) → (k ≡ Passed → EndsAccepted w es) → (decided k (summary_of es) empty_summary).refusal ≡ 0
+    go : (k : Checked) → (checked_number k ≡ 0 → k ≡ Passed) → (k ≡ Passed → EndsAccepted w es) → (decided k (summary_of es) empty_summary).refusal ≡ 0
         → LatestLongest es (decided k (summary_of es) empty_summary).longest (decided k (summary_of es) empty_summary).from
     go Passed p g z = latest-longest (g refl).rises (g refl).some
     go (Refused e) p g z = absurd (not-both refl (p z))

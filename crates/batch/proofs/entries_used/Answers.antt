@@ -1,7 +1,8 @@
 use mathlib.Core.Path.{ap, sym, ◌∙◌}
 use native.Mathlib.Omega.{arith}
+use Rattle.std.specs.Prelude.{Result}
 use Rattle.checks.specs.Answers.{count_says}
-use Rattle.checks.specs.declared.Counted.{Counted}
+use Rattle.checks.specs.declared.refusals.Refusal.{Refusal}
 use Rattle.batch.specs.Batch.{used_entries}
 use Rattle.batch.proofs.entries_used.Goals as goal
 
@@ -9,4 +10,4 @@ pub entries-requires : goal.entries-requires
 entries-requires c = let few = rw c.in-Count.is at c.requires in omega arith
 
 pub returns-in-Count : goal.returns-in-Count
-returns-in-Count c = c.entries.ensures ∙ sym (ap (λ (a : Counted). used_entries (count_says a)) c.in-Count.is)
+returns-in-Count c = c.entries.ensures ∙ sym (ap (λ (a : Result ℕ Refusal). used_entries (count_says a)) c.in-Count.is)

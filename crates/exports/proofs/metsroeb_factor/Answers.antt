@@ -1,8 +1,7 @@
 use mathlib.Core.Path.{◌≡◌, refl}
 use mathlib.Core.List.{◌++◌}
 use Rattle.words.specs.Pairs.{ends_of}
-use Rattle.checks.specs.Lines.{tried}
-use Rattle.checks.specs.declared.Checked.TheVariants.{Passed}
+use Rattle.checks.specs.Lines.{tried, Passed}
 use Rattle.checks.proofs.LineLaws.{both, both-passed, passed, refused}
 use Rattle.reading.specs.Factor.{factor_lines}
 use Rattle.reading.proofs.FactorLaws.{Placed, placed}

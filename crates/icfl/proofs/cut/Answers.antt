@@ -5,8 +5,7 @@ use Prim.Native.Nat.{◌-◌, ◌*◌, ◌≤◌}
 use native.Mathlib.Omega.{arith}
 use lib.ListN.{length}
 use Rattle.words.specs.Words.{most_letters}
-use Rattle.checks.specs.Lines.{tried, result_line}
-use Rattle.checks.specs.declared.Checked.TheVariants.{Passed}
+use Rattle.checks.specs.Lines.{tried, result_line, Passed}
 use Rattle.checks.proofs.LineLaws.{passed}
 use Rattle.checks.proofs.RecordLaws.{enough}
 use Rattle.cuts.specs.Cutting.{CutRoom}

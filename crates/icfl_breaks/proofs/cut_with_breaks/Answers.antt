@@ -4,8 +4,7 @@ use Prim.Native.Nat.{◌-◌, ◌*◌, ◌≤◌}
 use native.Mathlib.Omega.{arith}
 use lib.ListN.{length}
 use Rattle.words.specs.Words.{most_letters}
-use Rattle.checks.specs.Lines.{tried}
-use Rattle.checks.specs.declared.Checked.TheVariants.{Passed}
+use Rattle.checks.specs.Lines.{tried, Passed}
 use Rattle.checks.proofs.LineLaws.{both, passed}
 use Rattle.cuts.specs.Cutting.{CutRoom}
 use Rattle.breaks.proofs.GatherLaws.{breaks-fewer}

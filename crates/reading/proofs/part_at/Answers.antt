@@ -4,14 +4,14 @@ use mathlib.Core.List.{List, []}
 use Prim.Native.Nat.{ℕ}
 use native.Mathlib.Omega.{arith}
 use Rattle.buffers.proofs.PartLaws.{part-is}
-use Rattle.checks.specs.Answers.{number_of}
+use Rattle.checks.specs.Answers.{checked_number}
 use Rattle.checks.proofs.LineLaws.{refused}
 use Rattle.reading.proofs.FactorLaws.{placed}
 use Rattle.reading.proofs.part_at.Goals as goal
 
 pub returns-in_default : goal.returns-in_default
 returns-in_default c = record {
-  number_is = c.number.ensures ∙ ap number_of c.admit_factor-admitted.ensures;
+  number_is = c.number.ensures ∙ ap checked_number c.admit_factor-admitted.ensures;
   part-is = refused {A = List ℕ} _ _ (λ (n : ℕ). []) c.admit_factor-admitted.ensures c.in_default.not-Passed c.number.ensures;
 }
 
@@ -32,7 +32,7 @@ slice_bounds-result-end-2 c = omega (arith, (placed _ _ _ (sym c.in-Passed.ensur
 
 pub returns : goal.returns
 returns c = record {
-  number_is = c.number.ensures ∙ ap number_of c.admit_factor-admitted.ensures;
+  number_is = c.number.ensures ∙ ap checked_number c.admit_factor-admitted.ensures;
   part-is =
       rw (sym c.in-Passed.ensures, ← c.factor_from-from.ensures, ← c.factor_end-end.ensures)
       (part-is c.factor_from-from.result c.factor_end-end.result c.args.word.now);
