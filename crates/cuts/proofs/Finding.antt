@@ -6,6 +6,7 @@ use Prim.Native.Nat.{ℕ, suc, ◌+◌, ◌*◌, ◌≤◌, ◌<◌}
 use native.Mathlib.Omega.{arith}
 use lib.ListN.{length, take, drop, set, length-set, length-drop, length-append}
 use lib.Seq.{take-suc-set, drop-set-add, drop-set-lt}
+use Rattle.std.specs.Prelude.{Option, None, Some}
 use Rattle.buffers.proofs.BufferLaws.{kept-past}
 use Rattle.buffers.proofs.PartLaws.{rest, rest-is}
 use Rattle.words.specs.declared.Break.{Break}
@@ -89,7 +90,7 @@ find-fits w work₀ work n from cuts breaks r g = rw (rest-is from w) (record {
   entries = rw length-drop (omega (arith, r.entries, g.long));
 })
 
-module _ (w work₀ work work₁ : List ℕ) (n from cuts breaks : ℕ) (g : Finding w work₀ work n from cuts breaks) (a : Cut) (f : FirstCut (rest from w) work a work₁) where
+module _ (w work₀ work work₁ : List ℕ) (n from cuts breaks : ℕ) (g : Finding w work₀ work n from cuts breaks) (a : Option Cut) (f : FirstCut (rest from w) work a work₁) where
   first : FirstCut (drop from w) work a work₁
   first = rw (rest-is from w) at f
 
@@ -97,7 +98,7 @@ module _ (w work₀ work work₁ : List ℕ) (n from cuts breaks : ℕ) (g : Fin
   kept_from : (m : ℕ) → length w ≤ m → drop m work₁ ≡ drop m work
   kept_from m l = kept-past (length (drop from w)) m work₁ work (rw length-drop (omega arith)) first.kept
 
-  pub find-ends : a ≡ Cut.None → CutsFound w work₀ (record { cuts = cuts; breaks = breaks }) work₁
+  pub find-ends : a ≡ None → CutsFound w work₀ (record { cuts = cuts; breaks = breaks }) work₁
   find-ends z =
       let all : Cuts w 0 g.found = rw append-nil at (g.whole [] (last g.inside (rw z at first.told))) in
       record {
@@ -106,7 +107,13 @@ module _ (w work₀ work work₁ : List ℕ) (n from cuts breaks : ℕ) (g : Fin
         kept = kept_from (3 * length w) (omega arith) ∙ g.kept;
       }
 
-  module _ (p r : ℕ) (z : a ≡ Cut.After p r) where
+  module _ {x : Cut} (z : a ≡ Some x) where
+    abbrev p : ℕ
+    p = x.prefix
+
+    abbrev r : ℕ
+    r = x.border
+
     pub cut_by : CutBy (drop from w) p r
     cut_by = rw z at first.told
 

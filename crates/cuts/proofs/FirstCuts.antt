@@ -4,12 +4,13 @@ use mathlib.Core.List.{List, [], ◌∷◌}
 use Prim.Native.Nat.{ℕ, ◌<◌}
 use native.Mathlib.Omega.{arith}
 use lib.ListN.{length, get_or}
+use Rattle.std.specs.Prelude.{Option, None, Some}
 use Rattle.words.specs.Separated.{separator}
 use Rattle.theory.specs.Stretches.CutSteps.{CutBy, Uncut}
 use Rattle.theory.specs.Stretches.CutSteps.{separator-cut, separator-last, letter-cut, letter-last}
 use Rattle.extension.specs.declared.Extension.{Extension}
-use Rattle.extension.specs.Extension.{test_says, Verdict}
-use Rattle.extension.proofs.VerdictLaws.{Fails, fails-told, NoneFails, holds-told}
+use Rattle.extension.specs.Extension.{extension_values, Verdict}
+use Rattle.extension.proofs.VerdictLaws.{Fails, fails-listed, holds-listed}
 use Rattle.cuts.specs.declared.Cut.{Cut}
 use Rattle.cuts.specs.Cutting.{FirstCut}
 
@@ -24,19 +25,19 @@ more-letters : (w : List ℕ) → get_or w 0 0 ≡ separator → ¬ (length w �
 more-letters [] e n = absurd (omega (arith, e))
 more-letters (a ∷ w) e n = rw e (separator-cut w (omega arith))
 
-pub uncut-separator : (w work : List ℕ) → get_or w 0 0 ≡ separator → length w ≡ 1 → FirstCut w work Cut.None work
+pub uncut-separator : (w work : List ℕ) → get_or w 0 0 ≡ separator → length w ≡ 1 → FirstCut w work None work
 uncut-separator w work e l = record { told = one-letter w e l; kept = refl }
 
-pub cut-separator : (w work : List ℕ) → get_or w 0 0 ≡ separator → ¬ (length w ≡ 1) → FirstCut w work (Cut.After 1 0) work
+pub cut-separator : (w work : List ℕ) → get_or w 0 0 ≡ separator → ¬ (length w ≡ 1) → FirstCut w work (Some (record { prefix = 1; border = 0 })) work
 cut-separator w work e n = record { told = more-letters w e n; kept = refl }
 
 -- ---- a letter below it
 
-module _ (w work work' : List ℕ) (a : Extension) (h : get_or w 0 0 < separator) (v : Verdict w work a work') where
-  pub uncut-letter : NoneFails a → FirstCut w work Cut.None work'
-  uncut-letter o = record { told = letter-last w h (holds-told w a o v.answer); kept = v.kept }
+module _ (w work work' : List ℕ) (h : get_or w 0 0 < separator) where
+  pub uncut-letter : Verdict w work None work' → FirstCut w work None work'
+  uncut-letter v = record { told = letter-last w h (holds-listed w v.answer); kept = v.kept }
 
-  pub cut-letter : (l p r : ℕ) → 0 < length w → a ≡ Extension.Failing l p r → FirstCut w work (Cut.After p r) work'
-  cut-letter l p r s z =
-      let f : Fails w l p r = fails-told w l p r s (ap test_says (sym z) ∙ v.answer) in
+  pub cut-letter : {x : Extension} → 0 < length w → Verdict w work (Some x) work' → FirstCut w work (Some (record { prefix = x.prefix; border = x.border })) work'
+  cut-letter {x} s v =
+      let f : Fails w x.failing x.prefix x.border = fails-listed w x.failing x.prefix x.border s v.answer in
       record { told = rw (f.prefix, f.border) (letter-cut w s h f.not); kept = v.kept }

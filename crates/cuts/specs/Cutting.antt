@@ -1,5 +1,5 @@
 -- What finding the cuts asks and promises. No call's promise cites this file.
-use Rattle.std.specs.Prelude.{◌≡◌, List, [], ◌∷◌, ℕ, ◌*◌, ◌≤◌, ◌<◌, length, take, drop}
+use Rattle.std.specs.Prelude.{◌≡◌, Option, None, Some, List, [], ◌∷◌, ℕ, ◌*◌, ◌≤◌, ◌<◌, length, take, drop}
 use Rattle.words.specs.Words.{most_letters}
 use Rattle.words.specs.Separated.{separated_breaks}
 use Rattle.words.specs.declared.Break.{Break}
@@ -16,11 +16,11 @@ pub record CutRoom (w work : List ℕ) : Type 0 where
 
 -- ---- one cut
 
-abbrev pub CutTold : List ℕ → Cut → Type 0
-CutTold w Cut.None = Uncut w
-CutTold w (Cut.After prefix border) = CutBy w prefix border
+abbrev pub CutTold : List ℕ → Option Cut → Type 0
+CutTold w None = Uncut w
+CutTold w (Some cut) = CutBy w cut.prefix cut.border
 
-pub record FirstCut (w work : List ℕ) (r : Cut) (work' : List ℕ) : Type 0 where
+pub record FirstCut (w work : List ℕ) (r : Option Cut) (work' : List ℕ) : Type 0 where
   pub told : CutTold w r
   pub kept : drop (length w) work' ≡ drop (length w) work
 

@@ -6,48 +6,42 @@ ghost use Rattle.extension.specs.Extension.{TestRoom};
 ghost use Rattle.theory.specs.Stretches.CutSteps.{is_beside_separator};
 ghost use Rattle.cuts.specs.Cutting.{CutRoom, FirstCut, CutsFound};
 
-use extension::Extension;
 use words::SEPARATOR;
 
-// The first cut of a word: after so many letters, with |r|; none if the word is one factor.
-#[derive(Drop)]
-enum Cut {
-    None,
-    After { prefix: usize, border: usize },
+// A cut of a word: after so many letters, with |r|.
+#[derive(Clone, Copy, Drop)]
+struct Cut {
+    prefix: usize,
+    border: usize,
 }
 
 /// How many cuts there are, and how many of them are breaks.
-#[derive(Drop)]
+#[derive(Clone, Copy, Drop)]
 pub struct Counts {
     pub cuts: usize,
     pub breaks: usize,
 }
 
-// The first cut: a separator is a factor by itself. From a letter below it the test stops at a separator at the latest,
-// since that is the largest letter, with an empty r: the stretch ends there.
-fn first_cut(word: &[u8], work: &mut [u16]) -> Cut
+// The first cut; none if the word is one factor. A separator is a factor by itself. From a letter below it the test
+// stops at a separator at the latest, since that is the largest letter, with an empty r: the stretch ends there.
+fn first_cut(word: &[u8], work: &mut [u16]) -> Option<Cut>
     requires { TestRoom word.now work.old }
     ensures { FirstCut word.now work.old result work.new }
 {
     if word[0] == SEPARATOR {
         if word.len() == 1 {
-            return Cut::None;
+            return None;
         }
-        return Cut::After {
+        return Some(Cut {
             prefix: 1,
             border: 0,
-        };
+        });
     }
-    let found = extension::extension_of(word, work);
-    let Extension::Failing {
-        failing: _,
-        prefix,
-        border,
-    } = found
-    else {
-        return Cut::None;
-    };
-    Cut::After { prefix, border }
+    let found = extension::extension_of(word, work)?;
+    Some(Cut {
+        prefix: found.prefix,
+        border: found.border,
+    })
 }
 
 /// Whether a separator stands on either side of a place: a cut there is no break.
@@ -69,12 +63,12 @@ pub fn find_cuts(word: &[u8], work: &mut [u16]) -> Counts
     let mut breaks: usize = 0;
     while from < n {
         let found = first_cut(&word[from..], work);
-        let Cut::After { prefix, border } = found else {
+        let Some(cut) = found else {
             return Counts { cuts, breaks };
         };
-        from += prefix;
+        from += cut.prefix;
         work[n + 2 * cuts] = from as u16;
-        work[n + 2 * cuts + 1] = border as u16;
+        work[n + 2 * cuts + 1] = cut.border as u16;
         cuts += 1;
         if !beside_separator(word, from) {
             breaks += 1;

@@ -7,20 +7,20 @@ use Rattle.words.specs.Words.{most_letters}
 use Rattle.theory.specs.Stretches.CutSteps.{CutBy}
 use Rattle.cuts.proofs.Finding.{find-starts, breaks-few, find-fits, find-ends, cut_by, cut_inside, find-beside, find-break}
 use Rattle.cuts.proofs.find_cuts.Goals as goal
-use Rattle.cuts.proofs.find_cuts.Goals.{In-After}
+use Rattle.cuts.proofs.find_cuts.Goals.{In-Some}
 
 -- the cut that was found
-cut-at : (c : In-After) → (CutBy (drop c.loop-from.from c.args.word.now) c.in-After.prefix c.in-After.border)
-cut-at c = cut_by _ _ _ _ _ _ _ _ c.loop-from.invariant _ c.first_cut-found.ensures _ _ c.in-After.is
+cut-at : (c : In-Some) → (CutBy (drop c.loop-from.from c.args.word.now) c.in-Some.cut.prefix c.in-Some.cut.border)
+cut-at c = cut_by _ _ _ _ _ _ _ _ c.loop-from.invariant _ c.first_cut-found.ensures c.in-Some.is
 
 -- it lies inside the word, both entries of its note inside the buffer, and all numbers are small
-inside-at : (c : In-After) → (let word = c.args.word.now in
-    (c.loop-from.from + c.in-After.prefix + c.in-After.border < length word)
+inside-at : (c : In-Some) → (let word = c.args.word.now in
+    (c.loop-from.from + c.in-Some.cut.prefix + c.in-Some.cut.border < length word)
     × (length word + 2 * c.loop-from.cuts + 1 < length c.first_cut-found.new.work) × (c.loop-from.cuts < most_letters) × (length word ≤ most_letters)
-    × (0 < c.in-After.prefix))
+    × (0 < c.in-Some.cut.prefix))
 inside-at c = let inv = c.loop-from.invariant in
     let room = c.requires in (
-      cut_inside _ _ _ _ _ _ _ _ inv _ c.first_cut-found.ensures _ _ c.in-After.is,
+      cut_inside _ _ _ _ _ _ _ _ inv _ c.first_cut-found.ensures c.in-Some.is,
       omega (arith, inv.few, inv.inside, inv.long, c.first_cut-found.auto, room.entries),
       omega (arith, inv.few, inv.inside, room.short),
       room.short,
@@ -28,7 +28,7 @@ inside-at c = let inv = c.loop-from.invariant in
     )
 
 -- the buffer still has its three entries a letter
-room-after : (c : In-After) → 3 * length c.args.word.now ≤ length c.first_cut-found.new.work
+room-after : (c : In-Some) → 3 * length c.args.word.now ≤ length c.first_cut-found.new.work
 room-after c = omega (arith, c.loop-from.invariant.long, c.first_cut-found.auto, c.requires.entries)
 
 pub loop-from-init : goal.loop-from-init
@@ -45,69 +45,69 @@ returns-in_default c =
     find-ends _ _ _ _ _ _ _ _ c.loop-from.invariant _ c.first_cut-found.ensures c.in_default.is
 
 pub overflow_add-from : goal.overflow_add-from
-overflow_add-from c = omega (arith, inside-at (goal.at.overflow_add-from c).In-After)
+overflow_add-from c = omega (arith, inside-at (goal.at.overflow_add-from c).In-Some)
 
 pub overflow_cast-work : goal.overflow_cast-work
-overflow_cast-work c = omega (arith, inside-at (goal.at.overflow_cast-work c).In-After)
+overflow_cast-work c = omega (arith, inside-at (goal.at.overflow_cast-work c).In-Some)
 
 pub overflow_mul-work : goal.overflow_mul-work
-overflow_mul-work c = omega (arith, inside-at (goal.at.overflow_mul-work c).In-After)
+overflow_mul-work c = omega (arith, inside-at (goal.at.overflow_mul-work c).In-Some)
 
 pub overflow_add-work : goal.overflow_add-work
-overflow_add-work c = omega (arith, inside-at (goal.at.overflow_add-work c).In-After, c.loop-from.invariant.size)
+overflow_add-work c = omega (arith, inside-at (goal.at.overflow_add-work c).In-Some, c.loop-from.invariant.size)
 
 pub offset_bounds-work-n : goal.offset_bounds-work-n
-offset_bounds-work-n c = omega (arith, inside-at (goal.at.offset_bounds-work-n c).In-After, c.loop-from.invariant.size)
+offset_bounds-work-n c = omega (arith, inside-at (goal.at.offset_bounds-work-n c).In-Some, c.loop-from.invariant.size)
 
 pub bounds-work-n : goal.bounds-work-n
-bounds-work-n c = omega (arith, inside-at (goal.at.bounds-work-n c).In-After)
+bounds-work-n c = omega (arith, inside-at (goal.at.bounds-work-n c).In-Some)
 
 pub overflow_cast-work-in-loop-from : goal.overflow_cast-work-in-loop-from
-overflow_cast-work-in-loop-from c = omega (arith, inside-at (goal.at.overflow_cast-work-in-loop-from c).In-After)
+overflow_cast-work-in-loop-from c = omega (arith, inside-at (goal.at.overflow_cast-work-in-loop-from c).In-Some)
 
 pub overflow_mul-work-in-loop-from : goal.overflow_mul-work-in-loop-from
-overflow_mul-work-in-loop-from c = omega (arith, inside-at (goal.at.overflow_mul-work-in-loop-from c).In-After)
+overflow_mul-work-in-loop-from c = omega (arith, inside-at (goal.at.overflow_mul-work-in-loop-from c).In-Some)
 
 pub overflow_add-work-in-loop-from : goal.overflow_add-work-in-loop-from
-overflow_add-work-in-loop-from c = omega (arith, inside-at (goal.at.overflow_add-work-in-loop-from c).In-After, c.loop-from.invariant.size)
+overflow_add-work-in-loop-from c = omega (arith, inside-at (goal.at.overflow_add-work-in-loop-from c).In-Some, c.loop-from.invariant.size)
 
 pub overflow_add-work-in-loop-from-2 : goal.overflow_add-work-in-loop-from-2
-overflow_add-work-in-loop-from-2 c = omega (arith, inside-at (goal.at.overflow_add-work-in-loop-from-2 c).In-After, c.loop-from.invariant.size)
+overflow_add-work-in-loop-from-2 c = omega (arith, inside-at (goal.at.overflow_add-work-in-loop-from-2 c).In-Some, c.loop-from.invariant.size)
 
 pub offset_bounds-work-n-in-loop-from : goal.offset_bounds-work-n-in-loop-from
-offset_bounds-work-n-in-loop-from c = omega (arith, inside-at (goal.at.offset_bounds-work-n-in-loop-from c).In-After, c.loop-from.invariant.size)
+offset_bounds-work-n-in-loop-from c = omega (arith, inside-at (goal.at.offset_bounds-work-n-in-loop-from c).In-Some, c.loop-from.invariant.size)
 
 pub bounds-work-n-in-loop-from : goal.bounds-work-n-in-loop-from
-bounds-work-n-in-loop-from c = simp length-set (omega (arith, inside-at (goal.at.bounds-work-n-in-loop-from c).In-After))
+bounds-work-n-in-loop-from c = simp length-set (omega (arith, inside-at (goal.at.bounds-work-n-in-loop-from c).In-Some))
 
 pub overflow_add-cuts : goal.overflow_add-cuts
-overflow_add-cuts c = omega (arith, inside-at (goal.at.overflow_add-cuts c).In-After)
+overflow_add-cuts c = omega (arith, inside-at (goal.at.overflow_add-cuts c).In-Some)
 
 pub beside_separator-requires : goal.beside_separator-requires
-beside_separator-requires c = let inside = inside-at (goal.at.beside_separator-requires c).In-After in (omega (arith, inside), omega (arith, inside))
+beside_separator-requires c = let inside = inside-at (goal.at.beside_separator-requires c).In-Some in (omega (arith, inside), omega (arith, inside))
 
 pub overflow_add-breaks : goal.overflow_add-breaks
 overflow_add-breaks c =
-    omega (arith, inside-at (goal.at.overflow_add-breaks c).In-After, breaks-few c.loop-from.invariant)
+    omega (arith, inside-at (goal.at.overflow_add-breaks c).In-Some, breaks-few c.loop-from.invariant)
 
 pub loop-from-smaller-then-not-beside_separator : goal.loop-from-smaller-then-not-beside_separator
 loop-from-smaller-then-not-beside_separator c =
-    omega (arith, inside-at (goal.at.loop-from-smaller-then-not-beside_separator c).In-After, c.loop-from.invariant.size)
+    omega (arith, inside-at (goal.at.loop-from-smaller-then-not-beside_separator c).In-Some, c.loop-from.invariant.size)
 
 pub loop-from-preserved-then-not-beside_separator : goal.loop-from-preserved-then-not-beside_separator
 loop-from-preserved-then-not-beside_separator c =
-    find-break _ _ _ _ _ _ _ _ c.loop-from.invariant _ c.first_cut-found.ensures _ _ c.in-After.is
-    (room-after (goal.at.loop-from-preserved-then-not-beside_separator c).In-After) c.first_cut-found.auto.work
+    find-break _ _ _ _ _ _ _ _ c.loop-from.invariant _ c.first_cut-found.ensures c.in-Some.is
+    (room-after (goal.at.loop-from-preserved-then-not-beside_separator c).In-Some) c.first_cut-found.auto.work
     (sym c.beside_separator.ensures ∙ c.if-not-beside_separator.true)
 
 pub loop-from-smaller : goal.loop-from-smaller
 loop-from-smaller c =
-    omega (arith, inside-at (goal.at.loop-from-smaller c).In-After, c.loop-from.invariant.size)
+    omega (arith, inside-at (goal.at.loop-from-smaller c).In-Some, c.loop-from.invariant.size)
 
 pub loop-from-preserved : goal.loop-from-preserved
 loop-from-preserved c =
-    find-beside _ _ _ _ _ _ _ _ c.loop-from.invariant _ c.first_cut-found.ensures _ _ c.in-After.is
-    (room-after (goal.at.loop-from-preserved c).In-After) c.first_cut-found.auto.work
+    find-beside _ _ _ _ _ _ _ _ c.loop-from.invariant _ c.first_cut-found.ensures c.in-Some.is
+    (room-after (goal.at.loop-from-preserved c).In-Some) c.first_cut-found.auto.work
     (sym c.beside_separator.ensures ∙ c.if-not-beside_separator.false)
 
 pub returns : goal.returns

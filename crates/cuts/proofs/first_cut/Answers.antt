@@ -17,11 +17,9 @@ returns-then-word-eq1 c = uncut-separator _ _ c.if-word.true c.if-word-eq1.true
 pub returns-then-word : goal.returns-then-word
 returns-then-word c = cut-separator _ _ c.if-word.true c.if-word-eq1.false
 
-pub returns-in_default : goal.returns-in_default
-returns-in_default c =
-    uncut-letter _ _ _ _ (below_at (goal.at.returns-in_default c).Else-word) c.extension_of-found.ensures c.in_default.not-Failing
+pub returns-in_err-found : goal.returns-in_err-found
+returns-in_err-found c =
+    rw c.from_residual.ensures (uncut-letter _ _ _ (below_at (goal.at.returns-in_err-found c).Else-word) c.in_err-found.ensures)
 
 pub returns : goal.returns
-returns c =
-    cut-letter _ _ _ _ (below_at (goal.at.returns c).Else-word) c.extension_of-found.ensures _ _ _ c.requires.nonempty
-    c.in-Failing.is
+returns c = cut-letter _ _ _ (below_at (goal.at.returns c).Else-word) c.requires.nonempty c.in_ok-found.ensures
