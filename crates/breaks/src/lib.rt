@@ -22,12 +22,10 @@ fn gather_ends(word: &[u8], work: &mut [u16], count: usize) -> usize
     ensures { EndsGathered word.now work.old result work.new }
 {
     let n = word.len();
-    let mut k = count;
     let mut top = n - 1;
     let mut next = n;
     work[top] = n as u16;
-    while 0 < k {
-        k -= 1;
+    for k in (0..count).rev() {
         let place = work[n + 2 * k] as usize;
         let border = work[n + 2 * k + 1] as usize;
         if place + border < next {

@@ -4,6 +4,3 @@ use Rattle.breaks.proofs.gather_ends.Given as goal
 
 abbrev pub invariant-loop-k : goal.invariant-loop-k
 invariant-loop-k l = Gathering l.word l.initial.work l.work l.count l.k l.top l.next
-
-abbrev pub decreases-loop-k : goal.decreases-loop-k
-decreases-loop-k l = l.k
