@@ -11,7 +11,11 @@ use Rattle.words.specs.declared.Fate.TheVariants.{Joined}
 use Rattle.words.specs.declared.Break.{Break}
 use Rattle.theory.specs.Breaks.BreakSteps.{Ended, kept, joined, kept_ends}
 use Rattle.theory.specs.Stretches.Cuts.{FirstOf}
+use Rattle.fates.specs.declared.Cut.{Cut}
 use Rattle.fates.specs.Fates.{Near, fate_by, break_by}
+
+abbrev pub cut_at : (place begun border end : ℕ) → Cut
+cut_at place begun border end = record { place = place; begun = begun; border = border; end = end }
 
 module _ (w : List ℕ) (i : ℕ) (b : Break) (bs : List Break) (f : FirstOf w i b bs) where
   -- the first end that is left
@@ -28,19 +32,19 @@ module _ (w : List ℕ) (i : ℕ) (b : Break) (bs : List Break) (f : FirstOf w i
       go (kept h e) = rw e (omega arith)
       go (joined h s e) = rw e (omega arith)
 
-  pub near : {e : ℕ} → e ≡ end → Near w b.place i b.border e
+  pub near : {e : ℕ} → e ≡ end → Near w (cut_at b.place i b.border e)
   near z = record { forward = f.forward; inside = f.inside; near = omega (arith, end-near) }
 
-  fate-is : fate_by w b.place i b.border end ≡ b.fate
+  fate-is : fate_by w (cut_at b.place i b.border end) ≡ b.fate
   fate-is = go f.ended
     where
-      go : {es es' : List ℕ} {g : Fate} → End es es' g → fate_by w b.place i b.border (get_or es 0 0) ≡ g
+      go : {es es' : List ℕ} {g : Fate} → End es es' g → fate_by w (cut_at b.place i b.border (get_or es 0 0)) ≡ g
       go (kept h e) = rw (e, le-ltb b.place b.place (omega arith))
       go {es' = es'} (joined {s = s} h x e) =
           let z : b.border - (get_or es' 0 0 - b.place) ≡ s = omega arith in
           rw (e, lt-ltb b.place (get_or es' 0 0) h) (ap Joined z)
 
-  pub break-is : {e : ℕ} → e ≡ end → break_by w b.place i b.border e ≡ b
+  pub break-is : {e : ℕ} → e ≡ end → break_by w (cut_at b.place i b.border e) ≡ b
   break-is z =
       rw (z, fate-is)
       (ap (λ (j : ℕ). let k : Break = record { place = b.place; begun = j; border = b.border; fate = b.fate } in k) (sym f.starts))

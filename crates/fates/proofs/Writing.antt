@@ -24,7 +24,7 @@ use Rattle.cuts.proofs.NoteLaws.{few-noted, noted-cut, note-at}
 use Rattle.fates.specs.Entries.{break_entries, entries_of_breaks}
 use Rattle.fates.specs.Fates.{Near, break_by, cut_entries, WriteRoom, BreakWritten, Writable}
 use Rattle.fates.proofs.EntryLaws.{length-entries}
-use Rattle.fates.proofs.FateLaws.{near, break-is, kept-ends-on, joined-ends-on}
+use Rattle.fates.proofs.FateLaws.{cut_at, near, break-is, kept-ends-on, joined-ends-on}
 
 -- the word's end is left in any case
 some_end : (w : List ℕ) (bs : List Break) → 0 < length (kept_ends w bs)
@@ -144,10 +144,10 @@ module _ (w work buffer₀ : List ℕ) (found : Found) (x : Writable w work foun
     end_is : end ≡ get_or (kept_ends w (b ∷ later)) 0 0
     end_is = ap (λ (t : List ℕ). get_or t 0 0) (sym ends-cons ∙ ends-are)
 
-    pub near-at : Near w place begun border end
+    pub near-at : Near w (cut_at place begun border end)
     near-at = rw (place_is, border-is) (near w begun b later first end_is)
 
-    made : break_by w place begun border end ≡ b
+    made : break_by w (cut_at place begun border end) ≡ b
     made = rw (place_is, border-is) (break-is w begun b later first end_is)
 
     -- this cut's entries, then those of the cuts after it
@@ -160,7 +160,7 @@ module _ (w work buffer₀ : List ℕ) (found : Found) (x : Writable w work foun
         = ap length entries-are ∙ length-append (cut_entries w b) (entries_of_breaks (breaks_among w later)) in
         omega (arith, g.left, size)
 
-    pub room_at : WriteRoom w (break_by w place begun border end) buffer at
+    pub room_at : WriteRoom w (break_by w (cut_at place begun border end)) buffer at
     room_at = rw made (omega (arith, entries-left, x.entries, g.long))
 
     -- the ends that are left, if the first one is this cut's place
@@ -175,7 +175,7 @@ module _ (w work buffer₀ : List ℕ) (found : Found) (x : Writable w work foun
         omega (arith, left, some_end w later)
 
     -- buffer' is what writing it left, at' the entry after it
-    module _ (buffer' : List ℕ) (at' : ℕ) (y : BreakWritten w (break_by w place begun border end) buffer at at' buffer') where
+    module _ (buffer' : List ℕ) (at' : ℕ) (y : BreakWritten w (break_by w (cut_at place begun border end)) buffer at at' buffer') where
       wrote : BreakWritten w b buffer at at' buffer'
       wrote = rw made at y
 
@@ -229,6 +229,14 @@ module _ (w work buffer₀ : List ℕ) (found : Found) (x : Writable w work foun
           → Writing w work buffer₀ buffer' all next' end' place at' (k + 1)
       write-on next' end' (inl z) = rw (z.1, z.2) (kept_on z.0)
       write-on next' end' (inr z) = rw (z.1, z.2) (joined-on z.0)
+
+  -- past the last note all entries are written
+  pub writes-all : (buffer : List ℕ) (next end begun at k : ℕ) → Writing w work buffer₀ buffer all next end begun at k → length w ≤ k → all ≤ at
+  writes-all buffer next end begun at k g past = go (dec_lt at all)
+    where
+      go : Dec (at < all) → all ≤ at
+      go (yes m) = absurd (omega (arith, (note-inside buffer next end begun at k g m).1))
+      go (no m) = omega arith
 
   pub write-ends : (buffer : List ℕ) (next end begun at k : ℕ) → Writing w work buffer₀ buffer all next end begun at k → all ≤ at
       → buffer ≡ written (entries_of_breaks (separated_breaks w)) buffer₀

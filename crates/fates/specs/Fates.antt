@@ -9,24 +9,25 @@ use Rattle.words.specs.declared.Fate.TheVariants.{Kept, Joined}
 use Rattle.words.specs.declared.Break.{Break}
 use Rattle.cuts.specs.Cutting.{CutRoom, Noted}
 use Rattle.breaks.specs.declared.Found.{Found}
+use Rattle.fates.specs.declared.Cut.{Cut}
 use Rattle.fates.specs.Entries.{entries_of_breaks}
 
 -- both letters lie in the word, and an end past the place is at most |r| away
-pub record Near (w : List ℕ) (place begun border end : ℕ) : Type 0 where
-  pub forward : begun < place
-  pub inside : place + border < length w
-  pub near : end ≤ place + border
+pub record Near (w : List ℕ) (c : Cut) : Type 0 where
+  pub forward : c.begun < c.place
+  pub inside : c.place + c.border < length w
+  pub near : c.end ≤ c.place + c.border
 
 abbrev pub joined_or_kept : Bool → Fate → Fate → Fate
 joined_or_kept true joined kept = joined
 joined_or_kept false joined kept = kept
 
-abbrev pub fate_by : List ℕ → (place begun border end : ℕ) → Fate
-fate_by w place begun border end =
-    joined_or_kept (ltb place end) (Joined (border - (end - place))) (Kept (get_or w (begun + border) 0) (get_or w (place + border) 0))
+abbrev pub fate_by : List ℕ → Cut → Fate
+fate_by w c =
+    joined_or_kept (ltb c.place c.end) (Joined (c.border - (c.end - c.place))) (Kept (get_or w (c.begun + c.border) 0) (get_or w (c.place + c.border) 0))
 
-abbrev pub break_by : List ℕ → (place begun border end : ℕ) → Break
-break_by w place begun border end = record { place = place; begun = begun; border = border; fate = fate_by w place begun border end }
+abbrev pub break_by : List ℕ → Cut → Break
+break_by w c = record { place = c.place; begun = c.begun; border = c.border; fate = fate_by w c }
 
 -- the entries of a cut that is a break; none of any other
 abbrev pub cut_entries : List ℕ → Break → List ℕ

@@ -7,33 +7,37 @@ ghost use Rattle.std.proofs.lemmas.List.Edits.{sets};
 ghost use Rattle.buffers.specs.Buffers.{written};
 ghost use Rattle.words.specs.Separated.{separated_breaks};
 ghost use Rattle.fates.specs.Entries.{break_entries, entries_of_breaks};
-ghost use Rattle.fates.specs.Fates.{Near, break_by, WriteRoom, BreakWritten, Writable};
+ghost use Rattle.fates.specs.Fates.{Near, fate_by, break_by, WriteRoom, BreakWritten, Writable};
 
 use breaks::Found;
 use words::{Break, Fate};
 
-// A cut, told as a break is, by the first end that does not lie before it: kept if that is its place, otherwise joined
-// to the factor that ends there.
-fn break_of(word: &[u8], place: u16, begun: u16, border: u16, end: u16) -> Break
-    requires { Near word.now place begun border end }
-    ensures { result ≡ break_by word.now place begun border end }
+// A cut: its place, where its step began, |r|, and the first end that does not lie before the place.
+#[derive(Clone, Copy)]
+struct Cut {
+    place: u16,
+    begun: u16,
+    border: u16,
+    end: u16,
+}
+
+// What became of a cut: kept if that end is its place, otherwise joined to the factor that ends there.
+fn fate_of(word: &[u8], cut: Cut) -> Fate
+    requires { Near word.now cut }
+    ensures { result ≡ fate_by word.now cut }
 {
-    if place < end {
-        return Break {
-            place,
-            begun,
-            border,
-            fate: Fate::Joined(border - (end - place)),
-        };
-    }
-    let a = word[begun as usize + border as usize];
-    let b = word[place as usize + border as usize];
-    Break {
+    let Cut {
         place,
         begun,
         border,
-        fate: Fate::Kept(a, b),
+        end,
+    } = cut;
+    if place < end {
+        return Fate::Joined(border - (end - place));
     }
+    let a = word[begun as usize + border as usize];
+    let b = word[place as usize + border as usize];
+    Fate::Kept(a, b)
 }
 
 // Writes a break's five entries, from entry `at` on.
@@ -58,23 +62,20 @@ fn write_break(b: Break, buffer: &mut [u16], at: usize)
 }
 
 // Writes a cut, from entry `at` on, if it is a break. Answers the entry after what was written.
-fn write_if_break(
-    word: &[u8],
-    place: u16,
-    begun: u16,
-    border: u16,
-    end: u16,
-    buffer: &mut [u16],
-    at: usize,
-) -> usize
-    requires { Near word.now place begun border end × WriteRoom word.now (break_by word.now place begun border end) buffer.old at }
-    ensures { BreakWritten word.now (break_by word.now place begun border end) buffer.old at result buffer.new }
+fn write_if_break(word: &[u8], cut: Cut, buffer: &mut [u16], at: usize) -> usize
+    requires { Near word.now cut × WriteRoom word.now (break_by word.now cut) buffer.old at }
+    ensures { BreakWritten word.now (break_by word.now cut) buffer.old at result buffer.new }
 {
-    if cuts::beside_separator(word, place as usize) {
+    if cuts::beside_separator(word, cut.place as usize) {
         return at;
     }
-    let b = break_of(word, place, begun, border, end);
-    write_break(b, buffer, at);
+    let told = Break {
+        place: cut.place,
+        begun: cut.begun,
+        border: cut.border,
+        fate: fate_of(word, cut),
+    };
+    write_break(told, buffer, at);
     at + 5
 }
 
@@ -89,16 +90,23 @@ pub fn write_breaks(word: &[u8], work: &[u16], found: Found, buffer: &mut [u16])
     let mut end = work[next];
     let mut begun: u16 = 0;
     let mut at: usize = 0;
-    let mut k: usize = 0;
-    while at < all {
+    for k in 0..n {
+        if all <= at {
+            return; // the cuts that are left lie beside separators
+        }
         let place = work[n + 2 * k];
         let border = work[n + 2 * k + 1];
-        at = write_if_break(word, place, begun, border, end, buffer, at);
+        let cut = Cut {
+            place,
+            begun,
+            border,
+            end,
+        };
+        at = write_if_break(word, cut, buffer, at);
         if place == end {
             next += 1;
             end = work[next];
         }
         begun = place;
-        k += 1;
     }
 }
