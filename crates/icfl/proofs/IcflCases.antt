@@ -1,6 +1,6 @@
--- The piece cut's promise in each of its cases: refused at its door (icfl-at-door); past it (icfl-past-door) by 3 (work-refused), by 4 (pairs-refused), or done
--- (pairs-written). Without and with breaks the work buffer is cleared just where line 3 is tried and passes (refused-worked, cut-worked, at-door-worked), and
--- the ends are found in it (ends-count, ends-part, pairs-room). What the promise tells of a result (pairs-counted, pairs-front).
+-- The piece cut's promise in each of its cases: refused at its door (icfl-at-door); past it (icfl-past-door) by 3 (work-refused), or tried by 4
+-- (pairs-tried). Without and with breaks the work buffer is cleared just where line 3 is tried and passes (refused-worked, cut-worked, at-door-worked), and
+-- the ends are found in it (ends-count, ends-part). What the promise tells of a result (pairs-counted, pairs-front).
 use mathlib.Core.Path.{◌≡◌, refl, ap, sym, ◌∙◌}
 use mathlib.Core.Bool.{Bool, true, false, not}
 use mathlib.Core.List.{List, [], ◌∷◌, ◌++◌}
@@ -18,21 +18,18 @@ use Rattle.theory.proofs.Stretches.RecordPairs.{pairs-entries}
 use Rattle.buffers.specs.Buffers.{cleared, written}
 use Rattle.buffers.proofs.BufferLaws.{cleared-kept}
 use Rattle.buffers.proofs.PartLaws.{part, part-is}
-use Rattle.checks.specs.Lines.{Line, tried, ◌unless◌then◌, work_line, result_line, Accepted, Checked, Passed}
-use Rattle.checks.specs.Answers.{checked_number, Says, gives, refuses, Filled}
+use Rattle.checks.specs.Lines.{Line, tried, ◌unless◌then◌, work_line, result_line, Accepted, Passed, Refused}
+use Rattle.checks.specs.Answers.{number_of, Says, gives, refuses, Filled}
 use Rattle.checks.specs.declared.refusals.Refusal.{Refusal}
 use Rattle.checks.proofs.LineLaws.{
-  IsRefused,
   refused,
-  refused-first,
-  passed_first,
   past-door,
   refused-at-door,
   every_number,
   refused-tested,
   unless-but,
-  filled-refused,
-  filled-done,
+  filled-at-door,
+  filled-past-door,
   filled-counted,
   filled-entries,
 }
@@ -40,8 +37,7 @@ use Rattle.checks.proofs.RecordLaws.{enough}
 use Rattle.breaks.specs.declared.Found.{Found}
 use Rattle.cuts.specs.Cutting.{CutRoom}
 use Rattle.breaks.specs.Gathering.{CutFound}
-use Rattle.pairs.specs.Pairing.{PairsRoom}
-use Rattle.icfl.specs.Icfl.{icfl_lines, work_after, IcflDone}
+use Rattle.icfl.specs.Icfl.{icfl_lines, work_after, PairsFilled, IcflDone}
 
 -- ---- what both calls share
 
@@ -60,10 +56,6 @@ module _ {w work work₁ : List ℕ} {found : Found} (x : CutFound w work found 
   pub ends-part : part found.first (length w) work₁ ≡ separated_icfl_ends w
   ends-part = part-is found.first (length w) work₁ ∙ x.ends
 
-  pub pairs-room : {buffer : List ℕ} → length w ≤ most_letters → 2 * (length w - found.first) ≤ length buffer
-      → PairsRoom w (part found.first (length w) work₁) buffer
-  pairs-room s r = record { short = s; right = ends-part; entries = rw (ends-part, ← ends-count) r }
-
 -- past line 3 only lines with number 4 are tried
 module _ (w work : List ℕ) (more : List Line) (fours : every_number (λ m. eqb m 4) more ≡ true) where
   abbrev Worked : List ℕ → Type 0
@@ -73,8 +65,8 @@ module _ (w work : List ℕ) (more : List Line) (fours : every_number (λ m. eqb
       ≡ (cleared (3 * length w) work unless work_lines w (length work) then (λ number. work))
   worked-by-3 = unless-but (cleared (3 * length w) work) work (work_lines w (length work)) more 4 refl fours
 
-  pub refused-worked : {k : Checked} {m : ℕ} → k ≡ tried (work_lines w (length work)) → IsRefused k → m ≡ checked_number k → Worked work
-  refused-worked e h z = refused (work_lines w (length work)) (cleared (3 * length w) work) (λ number. work) e h z ∙ sym worked-by-3
+  pub refused-worked : {m : ℕ} → Refused m ≡ tried (work_lines w (length work)) → Worked work
+  refused-worked e = refused (work_lines w (length work)) (cleared (3 * length w) work) (λ number. work) e ∙ sym worked-by-3
 
   pub cut-worked : tried (work_lines w (length work)) ≡ Passed → {found : Found} {work₁ work₂ : List ℕ} → CutFound w work found work₁
       → work₂ ≡ cleared (3 * length w) work₁ → Worked work₂
@@ -84,11 +76,11 @@ module _ (w work : List ℕ) (more : List Line) (fours : every_number (λ m. eqb
 abbrev pub NoFour : List Line → Type 0
 NoFour door = every_number (λ m. not (eqb m 4)) door ≡ true
 
-pub at-door-worked : (door own : List Line) (n : ℕ) (work : List ℕ) → NoFour door → {k : Checked} {m : ℕ} → k ≡ tried door → IsRefused k → m ≡ checked_number k
+pub at-door-worked : (door own : List Line) (n : ℕ) (work : List ℕ) → NoFour door → {m : ℕ} → Refused m ≡ tried door
     → work ≡ cleared n work unless door ++ own then work_after n work
-at-door-worked door own n work no-four {m = m} e h z =
-    let other : eqb m 4 ≡ false = not-true (eqb m 4) (refused-tested (λ i. not (eqb i 4)) door no-four e h z) in
-    sym (ap (λ (t : Bool). elim t [ true ↦ cleared n work | false ↦ work ]) other) ∙ refused-at-door door own (cleared n work) (work_after n work) e h z
+at-door-worked door own n work no-four {m} e =
+    let other : eqb m 4 ≡ false = not-true (eqb m 4) (refused-tested (λ i. not (eqb i 4)) door no-four e) in
+    sym (ap (λ (t : Bool). elim t [ true ↦ cleared n work | false ↦ work ]) other) ∙ refused-at-door door own (cleared n work) (work_after n work) e
 
 -- ---- the piece cut
 
@@ -108,24 +100,14 @@ module _ (w work buffer : List ℕ) where
       → (work' ≡ cleared (3 * length w) work unless lines then work_after (3 * length w) work) → IcflDone [] w work buffer r work' buffer'
   done f y = record { answer = f.answer; result = f.result; worked = y }
 
-  pub work-refused : {k : Checked} {m : ℕ} → k ≡ tried (work_lines w (length work)) → IsRefused k → m ≡ checked_number k
-      → IcflDone [] w work buffer (Err m) work buffer
-  work-refused e h z = done (filled-refused _ _ _ (refused-first (work_lines w (length work)) room e h) h z) (refused-worked w work room refl e h z)
+  pub work-refused : {e : Refusal} → Refused (number_of e) ≡ tried (work_lines w (length work)) → IcflDone [] w work buffer (Err e) work buffer
+  work-refused e = done (filled-at-door (work_lines w (length work)) room _ _ _ e) (refused-worked w work room refl e)
 
-  module _ (p : tried (work_lines w (length work)) ≡ Passed) {found : Found} {work₁ work₂ : List ℕ} (x : CutFound w work found work₁)
-      (l : length w ≤ length work₁) (y : work₂ ≡ cleared (3 * length w) work₁) where
-    -- line 4 is tried after line 3
-    fourth : {k : Checked} → k ≡ tried (result_line (length buffer) (2 * (length w - found.first)) ∷ []) → k ≡ tried lines
-    fourth e = passed_first (work_lines w (length work)) room p (rw (ends-count x l) at e)
-
-    pub pairs-refused : {k : Checked} {m : ℕ} → k ≡ tried (result_line (length buffer) (2 * (length w - found.first)) ∷ []) → IsRefused k → m ≡ checked_number k
-        → IcflDone [] w work buffer (Err m) work₂ buffer
-    pairs-refused e h z = done (filled-refused _ _ _ (fourth e) h z) (cut-worked w work room refl p x y)
-
-    pub pairs-written : {buffer' : List ℕ} → tried (result_line (length buffer) (2 * (length w - found.first)) ∷ []) ≡ Passed
-        → buffer' ≡ written (separated_pairs w) buffer
-        → IcflDone [] w work buffer (Ok (length w - found.first)) work₂ buffer'
-    pairs-written r e = done (filled-done (sym (fourth (sym r))) (ends-count x l) e) (cut-worked w work room refl p x y)
+  -- past line 3 the work buffer is cleared, whatever line 4 says
+  pub pairs-tried : tried (work_lines w (length work)) ≡ Passed → {found : Found} {work₁ work₂ : List ℕ} → CutFound w work found work₁
+      → {r : Result ℕ Refusal} {buffer' : List ℕ} → PairsFilled w buffer r buffer' → work₂ ≡ cleared (3 * length w) work₁
+      → IcflDone [] w work buffer r work₂ buffer'
+  pairs-tried p x f y = done (filled-past-door (work_lines w (length work)) p f) (cut-worked w work room refl p x y)
 
 -- the two ways through a door
 module _ (door : List Line) (w work buffer : List ℕ) where
@@ -135,12 +117,11 @@ module _ (door : List Line) (w work buffer : List ℕ) where
   abbrev count : Says ℕ
   count = gives (length (separated_icfl_ends w))
 
-  pub icfl-at-door : NoFour door → {k : Checked} {m : ℕ} → k ≡ tried door → IsRefused k → m ≡ checked_number k
-      → IcflDone door w work buffer (Err m) work buffer
-  icfl-at-door no-four e h z = record {
-    answer = refused-at-door door own count (λ (i : ℕ). refuses i) e h z;
-    result = refused-at-door door own (written (separated_pairs w) buffer) (λ (i : ℕ). buffer) e h z;
-    worked = at-door-worked door own (3 * length w) work no-four e h z;
+  pub icfl-at-door : NoFour door → {e : Refusal} → Refused (number_of e) ≡ tried door → IcflDone door w work buffer (Err e) work buffer
+  icfl-at-door no-four e = record {
+    answer = refused-at-door door own count (λ (i : ℕ). refuses i) e;
+    result = refused-at-door door own (written (separated_pairs w) buffer) (λ (i : ℕ). buffer) e;
+    worked = at-door-worked door own (3 * length w) work no-four e;
   }
 
   pub icfl-past-door : {r : Result ℕ Refusal} {work' buffer' : List ℕ} → tried door ≡ Passed → IcflDone [] w work buffer r work' buffer'

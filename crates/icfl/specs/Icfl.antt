@@ -1,10 +1,11 @@
 -- DEFINITIONS. What the piece cut answers, writes and leaves in the work buffer (IcflDone).
-use Rattle.std.specs.Prelude.{◌≡◌, true, false, List, [], ◌∷◌, ◌++◌, ℕ, ◌*◌, length, eqb, Result}
+use Rattle.std.specs.Prelude.{◌≡◌, true, false, List, [], ◌∷◌, ◌++◌, ℕ, ◌*◌, ◌≤◌, length, eqb, Result}
+use Rattle.words.specs.Words.{most_letters}
 use Rattle.words.specs.Separated.{separated_icfl_ends}
 use Rattle.words.specs.Pairs.{separated_pairs}
 use Rattle.buffers.specs.Buffers.{cleared, written}
 use Rattle.checks.specs.Lines.{Line, ◌unless◌then◌, work_line, result_line}
-use Rattle.checks.specs.Answers.{Says, gives, refuses, count_says}
+use Rattle.checks.specs.Answers.{Says, gives, refuses, count_says, Filled}
 use Rattle.checks.specs.declared.refusals.Refusal.{Refusal}
 
 -- the piece cut's own lines, tried past those at its door: 3 before its work, then 4, which "counts both numbers" of an entry (request 108)
@@ -32,3 +33,15 @@ pub record IcflDone (door : List Line) (w work pairs : List ℕ) (r : Result ℕ
   pub answer : count_says r ≡ icfl_answer door w work pairs
   pub result : pairs' ≡ icfl_result door w work pairs
   pub worked : work' ≡ icfl_work door w work pairs
+
+-- ---- what writing the pairs asks and promises
+
+-- the ends of the factors of a word that was accepted, or of a part of one
+pub record EndsFound (w ends : List ℕ) : Type 0 where
+  pub short : length w ≤ most_letters
+  pub right : ends ≡ separated_icfl_ends w
+
+-- line 4 alone is tried
+abbrev pub PairsFilled : (w pairs : List ℕ) → Result ℕ Refusal → List ℕ → Type 0
+PairsFilled w pairs r pairs' =
+    Filled (result_line (length pairs) (2 * length (separated_icfl_ends w)) ∷ []) (length (separated_icfl_ends w)) (separated_pairs w) pairs r pairs'
