@@ -2,51 +2,59 @@
 #![tactic(auto)]
 
 ghost use Rattle.std.specs.Prelude.{[]};
-ghost use Rattle.checks.specs.Lines.{record_lines, Accepted};
-ghost use Rattle.icfl_breaks.specs.IcflBreaks.{BreaksDone};
+ghost use Rattle.checks.specs.Lines.{record_lines};
+ghost use Rattle.icfl_breaks.specs.IcflBreaks.{CutsKnown, BothFilled, BreaksDone};
 
-use checks::Checked;
+use breaks::Found;
+use checks::{Record, Refusal};
 
-/// What the piece cut with its breaks answers: the number of factors and that of breaks, or the number of the refusal.
-#[derive(Drop)]
-pub enum CountedBreaks {
-    Counts { factors: usize, breaks: usize },
-    Refused(u8),
+/// How many factors and how many breaks a record has.
+#[derive(Clone, Copy, Drop)]
+pub struct Counts {
+    pub factors: usize,
+    pub breaks: usize,
+}
+
+// Line 4 for either result buffer, then the pairs and the breaks, given the ends and the cuts.
+fn fill_both(
+    word: &[u8],
+    work: &[u16],
+    found: Found,
+    pairs: &mut [u16],
+    breaks: &mut [u16],
+) -> Result<Counts, Refusal>
+    requires { CutsKnown word.now work.now found }
+    ensures { BothFilled word.now pairs.old breaks.old result pairs.new breaks.new }
+{
+    let ends = &work[found.first..word.len()];
+    let counts = Counts {
+        factors: ends.len(),
+        breaks: found.breaks,
+    };
+    checks::check_result(pairs.len(), pairs::entries(counts.factors))?;
+    checks::check_result(breaks.len(), 5 * counts.breaks)?;
+    pairs::write_pairs(word, ends, pairs);
+    fates::write_breaks(word, work, found, breaks);
+    Ok(counts)
 }
 
 /// The piece cut with its reasons of an accepted record: the call's own lines, 3 and twice 4, and its work.
 pub fn cut_with_breaks(
-    word: &[u8],
+    record: Record,
     work: &mut [u16],
     pairs: &mut [u16],
     breaks: &mut [u16],
-) -> CountedBreaks
-    requires { Accepted word.now }
-    ensures { BreaksDone [] word.now work.old pairs.old breaks.old result
+) -> Result<Counts, Refusal>
+    ensures { BreaksDone [] record.entry.letters.now work.old pairs.old breaks.old result
         work.new pairs.new breaks.new }
 {
+    let word = record.letters;
     let n = word.len();
-    let work_fits = checks::check_work(work.len(), 3 * n);
-    let Checked::Passed = work_fits else {
-        return CountedBreaks::Refused(work_fits.number());
-    };
+    checks::check_work(work.len(), 3 * n)?;
     let found = breaks::find_ends(word, work);
-    let first = found.first;
-    let factors = n - first;
-    let count = found.breaks;
-    let pairs_fit = checks::check_result(pairs.len(), pairs::entries(factors));
-    let both_fit = pairs_fit.then(checks::check_result(breaks.len(), 5 * count));
-    let Checked::Passed = both_fit else {
-        buffers::clear(work, 3 * n);
-        return CountedBreaks::Refused(both_fit.number());
-    };
-    pairs::write_pairs(word, &work[first..n], pairs);
-    fates::write_breaks(word, work, found, breaks);
+    let filled = fill_both(word, work, found, pairs, breaks);
     buffers::clear(work, 3 * n);
-    CountedBreaks::Counts {
-        factors,
-        breaks: count,
-    }
+    filled
 }
 
 /// The piece cut with its reasons: writes the pairs as the piece cut does, and the breaks of all stretches from left to
@@ -58,13 +66,10 @@ pub fn icfl_with_breaks(
     work: &mut [u16],
     pairs: &mut [u16],
     breaks: &mut [u16],
-) -> CountedBreaks
+) -> Result<Counts, Refusal>
     ensures { BreaksDone (record_lines word.now) word.now work.old pairs.old breaks.old result
         work.new pairs.new breaks.new }
 {
-    let recorded = checks::check_record(word);
-    let Checked::Passed = recorded else {
-        return CountedBreaks::Refused(recorded.number());
-    };
-    cut_with_breaks(word, work, pairs, breaks)
+    let record = Record::admit(word)?;
+    cut_with_breaks(record, work, pairs, breaks)
 }
