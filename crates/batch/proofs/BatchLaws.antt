@@ -24,14 +24,13 @@ use Rattle.checks.proofs.LineLaws.{not-both, all_pass, first_alone, said, every-
 use Rattle.conditions.proofs.RecordEndsLaws.{Climbs, climbs-head, climbs-tail, climbs-most, listed}
 use Rattle.icfl.specs.Icfl.{icfl_lines, icfl_answer, IcflDone}
 use Rattle.icfl.proofs.IcflCases.{work_lines, NoFour}
-use Rattle.batch.specs.Batch.{records_from, Progress, cut_record, cut_records, uncut, batch_of, batch_says, batch_with, batch_lines, BatchDone}
+use Rattle.batch.specs.Batch.{records_from, Progress, cut_record, cut_records, uncut, batch_of, batch_says, batch_with, batch_lines, BatchAnswer, BatchDone}
 use Rattle.batch.specs.BatchStatements.{Left}
-use Rattle.batch.specs.declared.Batch.{Batch}
 use Rattle.batch.proofs.FoldLaws.{left, added, batch-answers, Every, folded-work, folded-pairs, written-drop, Fits, lines_of, entries-are, cut_when, fits_by}
 
 -- ---- both buffers
 
-pub batch-left : {door : Door} {bytes es work pairs work' pairs' : List ℕ} {r : Batch} → BatchDone door bytes es work pairs r work' pairs'
+pub batch-left : {door : Door} {bytes es work pairs work' pairs' : List ℕ} {r : BatchAnswer} → BatchDone door bytes es work pairs r work' pairs'
     → tried (batch_lines es (length bytes)) ≡ Passed
     → Left (records_from 0 es bytes) (batch_of door bytes es work pairs).answers work pairs work' pairs'
 batch-left {door} {bytes} {es} {work} {pairs} d p = rw (batch-answers door bytes es work pairs) (record {
@@ -107,7 +106,7 @@ module _ (door : Door) (w work pairs : List ℕ) where
   unfolding records_from cut_records
   one-cut = ap (cut_record door (uncut work pairs)) (take_all (length w) w (omega arith))
 
-  pub single-batch : {work' pairs' : List ℕ} {r : Batch} → BatchDone door w (length w ∷ []) work pairs r work' pairs'
+  pub single-batch : {work' pairs' : List ℕ} {r : BatchAnswer} → BatchDone door w (length w ∷ []) work pairs r work' pairs'
       → (batch_says r ≡ batch_with 0 (icfl_answer (door w) w work pairs ∷ []))
       × ((a : Result ℕ Refusal) → count_says a ≡ icfl_answer (door w) w work pairs → IcflDone (door w) w work pairs a work' pairs')
   unfolding cut_record
@@ -120,7 +119,7 @@ module _ (door : Door) (w work pairs : List ℕ) where
     },
   )
 
-  pub batch-single : {a : Result ℕ Refusal} {work' pairs' : List ℕ} → IcflDone (door w) w work pairs a work' pairs' → (r : Batch)
+  pub batch-single : {a : Result ℕ Refusal} {work' pairs' : List ℕ} → IcflDone (door w) w work pairs a work' pairs' → (r : BatchAnswer)
       → batch_says r ≡ batch_with 0 (count_says a ∷ []) → BatchDone door w (length w ∷ []) work pairs r work' pairs'
   unfolding cut_record
   batch-single {a} d r e = record {

@@ -15,37 +15,30 @@ use Rattle.theory.specs.Stretches.Factors.{separated-icfl-ends-rise}
 use Rattle.theory.proofs.Stretches.RecordPairs.{pairs-entries}
 use Rattle.buffers.proofs.PartLaws.{part, part-is, rest, rest-is, rest_back}
 use Rattle.conditions.specs.Conditions.{most_records}
-use Rattle.checks.specs.Lines.{Line, Door, tried, Checked, Passed}
-use Rattle.checks.specs.Doors.{Guards}
-use Rattle.checks.specs.Answers.{checked_number, Says, gives, count_says}
+use Rattle.checks.specs.Lines.{Line, Door, tried, Accepted, Passed, Refused}
+use Rattle.checks.specs.Answers.{number_of, Says, gives, count_says}
 use Rattle.checks.specs.declared.refusals.Refusal.{Refusal}
-use Rattle.checks.proofs.LineLaws.{IsRefused, refused, both-passed, unmet, filled-counted}
+use Rattle.checks.proofs.LineLaws.{refused, both-passed, unmet, filled-counted}
 use Rattle.conditions.proofs.RecordEndsLaws.{Climbs, climbs-head, climbs-tail, climbs-most, listed}
 use Rattle.icfl.specs.Icfl.{icfl_lines, IcflDone}
 use Rattle.icfl.proofs.IcflCases.{icfl-filled}
-use Rattle.batch.specs.Batch.{records_from, Progress, used_entries, cut_record, cut_records, batch_of, says_of, batch_says, batch_with, batch_lines, BatchDone}
-use Rattle.batch.specs.declared.Batch.{Batch}
-use Rattle.batch.specs.declared.Place.{Place}
+use Rattle.batch.specs.Batch.{records_from, Progress, used_entries, cut_record, cut_records, batch_of, says_of, places_of, batch_with, batch_lines, BatchDone}
 
--- before any record
-abbrev pub blank_with : ℕ → Batch
-blank_with number = record { refusal = number; places = replicate most_records (record { answer = Ok 0 }) }
-
-pub batch-refused : (door : Door) (bytes es work pairs : List ℕ) {k : Checked} {m : ℕ} → k ≡ tried (batch_lines es (length bytes)) → IsRefused k → m ≡ checked_number k
-    → BatchDone door bytes es work pairs (blank_with m) work pairs
-batch-refused door bytes es work pairs e h z =
+pub batch-refused : (door : Door) (bytes es work pairs : List ℕ) {e : Refusal} → Refused (number_of e) ≡ tried (batch_lines es (length bytes))
+    → BatchDone door bytes es work pairs (Err e) work pairs
+batch-refused door bytes es work pairs e =
     let lines = batch_lines es (length bytes) in
     record {
-      answer = refused lines _ (λ (i : ℕ). batch_with i []) e h z;
-      result = refused lines _ (λ (i : ℕ). pairs) e h z;
-      worked = refused lines _ (λ (i : ℕ). work) e h z;
+      answer = refused lines _ (λ (i : ℕ). batch_with i []) e;
+      result = refused lines _ (λ (i : ℕ). pairs) e;
+      worked = refused lines _ (λ (i : ℕ). work) e;
     }
 
 -- ---- the loop
 
--- an answer stored in its place
-abbrev pub placed_at : ℕ → Result ℕ Refusal → Batch → Batch
-placed_at i a r = record { refusal = r.refusal; places = set r.places i (record { answer = a }) }
+-- before any record
+abbrev pub blank : List (Result ℕ Refusal)
+blank = replicate most_records (Ok 0)
 
 map-set : {A B : Type 0} (f : A → B) (xs : List A) (i : ℕ) (y : A) → map f (set xs i y) ≡ set (map f xs) i (f y)
 map-set f [] i y = refl
@@ -53,20 +46,17 @@ map-set f (x ∷ xs) zero y = refl
 map-set {B = B} f (x ∷ xs) (suc i) y = ap (λ (zs : List B). f x ∷ zs) (map-set f xs i y)
 
 -- one more answer takes the first place past the others
-placed-next : (answers : List (Says ℕ)) (a : Result ℕ Refusal) (r : Batch) {i : ℕ} → batch_says r ≡ batch_with 0 answers → length answers ≡ i → i < most_records
-    → batch_says (placed_at i a r) ≡ batch_with 0 (answers ++ count_says a ∷ [])
-placed-next answers a r {i} e n l =
+placed-next : (answers : List (Says ℕ)) (a : Result ℕ Refusal) (places : List (Result ℕ Refusal)) {i : ℕ} → says_of places ≡ places_of answers
+    → length answers ≡ i → i < most_records → says_of (set places i a) ≡ places_of (answers ++ count_says a ∷ [])
+placed-next answers a places {i} e n l =
     let m : most_records - length answers ≡ suc (most_records - length (answers ++ count_says a ∷ [])) = rw (length-append answers (count_says a ∷ [])) (omega arith) in
-    let blank : Says ℕ = gives 0 in
-    let rest = replicate (most_records - length (answers ++ count_says a ∷ [])) blank in
-    let stored : says_of (set r.places i (record { answer = a })) ≡ answers ++ count_says a ∷ rest =
-    map-set (λ (p : Place). count_says p.answer) r.places i (record { answer = a })
-    ∙ ap (λ (b : ℕ × List (Says ℕ)). set b.1 i (count_says a)) e
-    ∙ ap (λ (k : ℕ). set (answers ++ replicate k blank) i (count_says a)) m
-    ∙ set_at answers blank rest (count_says a) i n
-    in
-    ap (λ (b : ℕ × List (Says ℕ)). (b.0, says_of (set r.places i (record { answer = a })))) e
-    ∙ ap (λ (t : List (Says ℕ)). (0, t)) (stored ∙ sym (append_assoc answers (count_says a ∷ []) rest))
+    let none : Says ℕ = gives 0 in
+    let rest = replicate (most_records - length (answers ++ count_says a ∷ [])) none in
+    map-set count_says places i a
+    ∙ ap (λ (b : List (Says ℕ)). set b i (count_says a)) e
+    ∙ ap (λ (k : ℕ). set (answers ++ replicate k none) i (count_says a)) m
+    ∙ set_at answers none rest (count_says a) i n
+    ∙ sym (append_assoc answers (count_says a ∷ []) rest)
 
 -- an answer uses no more entries than the buffer has
 used-fits : {door : List Line} {w work left : List ℕ} {a : Result ℕ Refusal} {work₁ left₁ : List ℕ} → IcflDone door w work left a work₁ left₁ → used_entries (count_says a) ≤ length left₁
@@ -75,17 +65,17 @@ used-fits {w} {left = left} {a = Ok n} d =
     omega (arith, f.1, ap length f.2, length-append (separated_pairs w) (drop (length (separated_pairs w)) left), pairs-entries w)
 used-fits {a = Err number} d = omega arith
 
-pub used-few : {door : List Line} {w work left : List ℕ} {a : Result ℕ Refusal} {work₁ left₁ : List ℕ} → Guards door w → IcflDone door w work left a work₁ left₁
+pub used-few : {door : List Line} {w work left : List ℕ} {a : Result ℕ Refusal} {work₁ left₁ : List ℕ} → (tried door ≡ Passed → Accepted w) → IcflDone door w work left a work₁ left₁
     → used_entries (count_says a) ≤ 2 * most_letters
 used-few {door} {w} {work} {left} {a = Ok n} g d =
     let f = filled-counted (icfl-filled d) in
     omega (arith, f.1, (g (both-passed door (icfl_lines w (length work) (length left)) f.0).0).short, rises-few (separated-icfl-ends-rise w))
 used-few {a = Err number} g d = omega arith
 
-pub record Cutting (door : Door) (bytes es work₀ pairs₀ work pairs : List ℕ) (r : Batch) (from used i : ℕ) : Type 0 where
+pub record Cutting (door : Door) (bytes es work₀ pairs₀ work pairs : List ℕ) (places : List (Result ℕ Refusal)) (from used i : ℕ) : Type 0 where
   pub answers : List (Says ℕ)
   pub count : length answers ≡ i
-  pub placed : batch_says r ≡ batch_with 0 answers
+  pub placed : says_of places ≡ places_of answers
   pub on : cut_records door (record { answers = answers; work = work; pairs = pairs; used = used }) (records_from from (drop i es) bytes)
       ≡ batch_of door bytes es work₀ pairs₀
   pub climbs : Climbs (length bytes) from (drop i es)
@@ -94,21 +84,21 @@ pub record Cutting (door : Door) (bytes es work₀ pairs₀ work pairs : List �
   pub room : used ≤ length pairs
 
 pub cutting-starts : (door : Door) (bytes es work pairs : List ℕ) → tried (batch_lines es (length bytes)) ≡ Passed
-    → Cutting door bytes es work pairs work pairs (blank_with 0) 0 0 0
+    → Cutting door bytes es work pairs work pairs blank 0 0 0
 cutting-starts door bytes es work pairs p =
     let l = listed es (length bytes) (unmet (batch_lines es (length bytes)) p).0 in
     record { answers = []; count = refl; placed = refl; on = refl; climbs = l.climbs; few = l.few; inside = omega arith; room = omega arith }
 
-module _ {door : Door} {bytes es work₀ pairs₀ work pairs : List ℕ} {r : Batch} {from used i : ℕ}
-    (g : Cutting door bytes es work₀ pairs₀ work pairs r from used i) where
-  pub cutting-ends : tried (batch_lines es (length bytes)) ≡ Passed → length es ≤ i → BatchDone door bytes es work₀ pairs₀ r work pairs
+module _ {door : Door} {bytes es work₀ pairs₀ work pairs : List ℕ} {places : List (Result ℕ Refusal)} {from used i : ℕ}
+    (g : Cutting door bytes es work₀ pairs₀ work pairs places from used i) where
+  pub cutting-ends : tried (batch_lines es (length bytes)) ≡ Passed → length es ≤ i → BatchDone door bytes es work₀ pairs₀ (Ok places) work pairs
   unfolding records_from cut_records
   cutting-ends p l =
       let none : drop i es ≡ [] = drop_of_length-le es {i = i} l in
       let so_far : Progress = record { answers = g.answers; work = work; pairs = pairs; used = used } in
       let whole = ap (λ (t : List ℕ). cut_records door so_far (records_from from t bytes)) (sym none) ∙ g.on in
       record {
-        answer = rw p (g.placed ∙ ap (λ (q : Progress). batch_with 0 q.answers) whole);
+        answer = rw p (ap (λ (t : List (Says ℕ)). (0, t)) g.placed ∙ ap (λ (q : Progress). batch_with 0 q.answers) whole);
         result = rw p (ap (λ (q : Progress). q.pairs) whole);
         worked = rw p (ap (λ (q : Progress). q.work) whole);
       }
@@ -135,12 +125,12 @@ module _ {door : Door} {bytes es work₀ pairs₀ work pairs : List ℕ} {r : Ba
 
     pub cutting-on : {a : Result ℕ Refusal} {work₁ left₁ : List ℕ}
         → (let w = slice from (get_or es i 0) bytes in IcflDone (door w) w work (drop used pairs) a work₁ left₁)
-        → Cutting door bytes es work₀ pairs₀ work₁ (take used pairs ++ left₁) (placed_at i a r) (get_or es i 0) (used + used_entries (count_says a)) (i + 1)
+        → Cutting door bytes es work₀ pairs₀ work₁ (take used pairs ++ left₁) (set places i a) (get_or es i 0) (used + used_entries (count_says a)) (i + 1)
     unfolding records_from cut_records cut_record
     cutting-on {a} {work₁} {left₁} d = record {
       answers = g.answers ++ count_says a ∷ [];
       count = length-append g.answers (count_says a ∷ []) ∙ omega (arith, g.count);
-      placed = placed-next g.answers a r g.placed g.count (omega (arith, g.few));
+      placed = placed-next g.answers a places g.placed g.count (omega (arith, g.few));
       on = rw (d.answer, d.result, d.worked)
           (ap (λ (t : List ℕ). cut_records door (record { answers = g.answers; work = work; pairs = pairs; used = used }) (records_from from t bytes)) (sym next) ∙ g.on);
       climbs = climbs-tail climbs-on;
@@ -152,6 +142,6 @@ module _ {door : Door} {bytes es work₀ pairs₀ work pairs : List ℕ} {r : Ba
     -- the same, as the code lends the record and what is left of the result buffer
     pub lent-on : {a : Result ℕ Refusal} {n : ℕ} {work₁ left₁ : List ℕ}
         → (let w = part from (get_or es i 0) bytes in IcflDone (door w) w work (rest used pairs) a work₁ left₁) → n ≡ used_entries (count_says a)
-        → Cutting door bytes es work₀ pairs₀ work₁ (take used pairs ++ (left₁ ++ drop (length pairs - used) (drop used pairs))) (placed_at i a r) (get_or es i 0) (used + n)
+        → Cutting door bytes es work₀ pairs₀ work₁ (take used pairs ++ (left₁ ++ drop (length pairs - used) (drop used pairs))) (set places i a) (get_or es i 0) (used + n)
         (i + 1)
     lent-on {left₁ = left₁} d z = rw (rest_back used pairs left₁, z) (cutting-on (rw (part-is from (get_or es i 0) bytes, rest-is used pairs) at d))

@@ -1,12 +1,11 @@
 -- DEFINITIONS. A batch (paper 02: a card, request 105): up to 64 records one after another are cut in one call (BatchDone).
-use Rattle.std.specs.Prelude.{◌≡◌, List, [], ◌∷◌, ◌++◌, map, ℕ, ◌+◌, ◌-◌, ◌*◌, length, take, drop, replicate}
+use Rattle.std.specs.Prelude.{◌≡◌, Result, Ok, Err, List, [], ◌∷◌, ◌++◌, map, ℕ, ◌+◌, ◌-◌, ◌*◌, length, take, drop, replicate}
 use Rattle.std.proofs.Math.Seq.{slice}
 use Rattle.conditions.specs.Conditions.{most_records}
 use Rattle.checks.specs.Lines.{Line, Door, ◌unless◌then◌, record_ends_line}
-use Rattle.checks.specs.Answers.{Says, gives, refuses, count_says}
+use Rattle.checks.specs.declared.refusals.Refusal.{Refusal}
+use Rattle.checks.specs.Answers.{number_of, Says, gives, refuses, count_says}
 use Rattle.icfl.specs.Icfl.{icfl_answer, icfl_result, icfl_work}
-use Rattle.batch.specs.declared.Batch.{Batch}
-use Rattle.batch.specs.declared.Place.{Place}
 
 -- ---- the records, and their cutting
 
@@ -54,17 +53,22 @@ batch_of door bytes es work pairs = cut_records door (uncut work pairs) (records
 
 -- ---- the call
 
--- what each place says
-abbrev pub says_of : List Place → List (Says ℕ)
-says_of places = map (λ place. count_says place.answer) places
+-- the type of a batch's answer: that of each place, or the refusal of the list
+abbrev pub BatchAnswer : Type 0
+BatchAnswer = Result (List (Result ℕ Refusal)) Refusal
 
--- what an answer says: the refusal's number, 0 for none, and beside it the places
-abbrev pub batch_says : Batch → ℕ × List (Says ℕ)
-batch_says r = (r.refusal, says_of r.places)
+-- what each place says
+abbrev pub says_of : List (Result ℕ Refusal) → List (Says ℕ)
+says_of places = map count_says places
 
 -- "The answers come in the card's order, in 64 places; those past the last record hold a result of 0."
 abbrev pub places_of : List (Says ℕ) → List (Says ℕ)
 places_of answers = answers ++ replicate (most_records - length answers) (gives 0)
+
+-- what an answer says: the refusal's number, 0 for none, and beside it the places; beside a refusal all hold "a result of 0"
+abbrev pub batch_says : BatchAnswer → ℕ × List (Says ℕ)
+batch_says (Ok places) = (0, says_of places)
+batch_says (Err refusal) = (number_of refusal, places_of [])
 
 abbrev pub batch_with : ℕ → List (Says ℕ) → ℕ × List (Says ℕ)
 batch_with number answers = (number, places_of answers)
@@ -74,7 +78,7 @@ abbrev pub batch_lines : List ℕ → ℕ → List Line
 batch_lines es n = record_ends_line es n ∷ []
 
 -- the call's promise, each record cut behind a door: its answer, 0 or 10 with all places (with 10 all hold "a result of 0"), and both buffers whole
-pub record BatchDone (door : Door) (bytes es work pairs : List ℕ) (r : Batch) (work' pairs' : List ℕ) : Type 0 where
+pub record BatchDone (door : Door) (bytes es work pairs : List ℕ) (r : BatchAnswer) (work' pairs' : List ℕ) : Type 0 where
   pub answer : batch_says r ≡ batch_with 0 (batch_of door bytes es work pairs).answers unless batch_lines es (length bytes) then (λ number. batch_with number [])
   pub result : pairs' ≡ (batch_of door bytes es work pairs).pairs unless batch_lines es (length bytes) then (λ number. pairs)
   pub worked : work' ≡ (batch_of door bytes es work pairs).work unless batch_lines es (length bytes) then (λ number. work)

@@ -8,30 +8,19 @@ ghost use Rattle.checks.specs.Answers.{count_says};
 ghost use Rattle.batch.specs.Batch.{used_entries, BatchDone};
 
 pub use checks::MOST_RECORDS;
-use checks::{Checked, Counted};
+use checks::Refusal;
 
-/// What the piece cut answers for one record.
-#[derive(Clone, Copy)]
-pub struct Place {
-    pub answer: Counted,
-}
-
-/// What a batch comes to: the refusal's number, 0 or 10, and the records' answers in their order; places past the last
-/// record hold `Count(0)`, with 10 all do.
-#[derive(Drop)]
-pub struct Batch {
-    pub refusal: u8,
-    pub places: [Place; MOST_RECORDS],
-}
+/// What a batch comes to: the records' answers in their order, `Ok(0)` in the places past the last record.
+pub type Answers = [Result<usize, Refusal>; MOST_RECORDS];
 
 // The entries of the result buffer that an answer uses: a pair for each factor.
-fn entries_used(answer: Counted) -> usize
+fn entries_used(answer: Result<usize, Refusal>) -> usize
     requires { used_entries (count_says answer) ≤ 2 * most_letters }
     ensures { result ≡ used_entries (count_says answer) }
 {
     match answer {
-        Counted::Count(n) => pairs::entries(n),
-        Counted::Refused(_) => 0,
+        Ok(n) => pairs::entries(n),
+        Err(_) => 0,
     }
 }
 
@@ -41,31 +30,25 @@ fn entries_used(answer: Counted) -> usize
 /// before any record, where the list is empty, has more than 64 ends, falls somewhere, or does not end with the bytes
 /// lent; both buffers then stay as they were. Otherwise the first entries of `work`, three for each letter of the
 /// longest record that was cut or refused by 4, are zero.
-pub fn icfl_batch(bytes: &[u8], record_ends: &[u32], work: &mut [u16], pairs: &mut [u16]) -> Batch
+pub fn icfl_batch(
+    bytes: &[u8],
+    record_ends: &[u32],
+    work: &mut [u16],
+    pairs: &mut [u16],
+) -> Result<Answers, Refusal>
     ensures { BatchDone record_lines bytes.now record_ends.now work.old pairs.old result
         work.new pairs.new }
 {
-    let mut answers = Batch {
-        refusal: 0,
-        places: [Place {
-            answer: Counted::Count(0),
-        }; MOST_RECORDS],
-    };
-    let listed = checks::check_record_ends(record_ends, bytes.len());
-    let Checked::Passed = listed else {
-        answers.refusal = listed.number();
-        return answers;
-    };
+    checks::check_record_ends(record_ends, bytes.len())?;
+    let mut answers = [Ok(0); MOST_RECORDS];
     let mut from: usize = 0;
     let mut used: usize = 0;
-    let mut i: usize = 0;
-    while i < record_ends.len() {
-        let end = record_ends[i] as usize;
+    for (i, record_end) in record_ends.iter().enumerate() {
+        let end = *record_end as usize;
         let answer = icfl::icfl(&bytes[from..end], work, &mut pairs[used..]);
         used += entries_used(answer);
-        answers.places[i] = Place { answer };
+        answers[i] = answer;
         from = end;
-        i += 1;
     }
-    answers
+    Ok(answers)
 }

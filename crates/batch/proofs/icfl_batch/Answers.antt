@@ -1,21 +1,18 @@
 -- The list is checked, and 10 refuses; otherwise each turn lends the next record, the work buffer and what is left of the result buffer to the
 -- piece cut, and puts its answer into the next place.
-use mathlib.Core.Path.{refl, ◌∙◌}
+use mathlib.Core.Path.{refl, sym, ◌∙◌}
 use native.Mathlib.Omega.{arith}
 use Rattle.buffers.proofs.PartLaws.{rest-length}
-use Rattle.checks.proofs.LineLaws.{passed}
+use Rattle.checks.proofs.LineLaws.{passed-up}
 use Rattle.checks.proofs.RecordLaws.{accepted}
 use Rattle.batch.proofs.Cutting.{used-few, batch-refused, cutting-starts, cutting-ends, record-from, record-end, lent-on, lent-room}
 use Rattle.batch.proofs.icfl_batch.Goals as goal
 
-pub returns-in_default : goal.returns-in_default
-returns-in_default c = batch-refused _ _ _ _ _ c.check_record_ends-listed.ensures c.in_default.not-Passed c.number.ensures
+pub returns-in_err-check_record_ends : goal.returns-in_err-check_record_ends
+returns-in_err-check_record_ends c = rw (passed-up _ c.from_residual.ensures.1) (batch-refused _ _ _ _ _ c.in_err-check_record_ends.ensures)
 
 pub loop-i-init : goal.loop-i-init
-loop-i-init c = (cutting-starts _ _ _ _ _ (passed _ c.check_record_ends-listed.ensures c.in-Passed.is), refl, refl)
-
-pub overflow_cast-end : goal.overflow_cast-end
-overflow_cast-end c = omega (arith, (c.shared_slice_known-in-loop-i-1.given c.loop-i.i).fits)
+loop-i-init c = (cutting-starts _ _ _ _ _ (sym c.in_ok-check_record_ends.ensures), refl, refl)
 
 pub slice_bounds-icfl-count : goal.slice_bounds-icfl-count
 slice_bounds-icfl-count c = omega (arith, record-from c.loop-i.invariant.0 c.loop-i-test.true)
@@ -43,4 +40,4 @@ loop-i-preserved c =
 
 pub returns : goal.returns
 returns c =
-    cutting-ends c.loop-i.invariant.0 (passed _ c.check_record_ends-listed.ensures c.in-Passed.is) c.loop-i-test.false
+    cutting-ends c.loop-i.invariant.0 (sym c.in_ok-check_record_ends.ensures) c.loop-i-test.false

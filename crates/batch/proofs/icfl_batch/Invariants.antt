@@ -1,6 +1,5 @@
 -- The list is checked, and 10 refuses; otherwise each turn lends the next record, the work buffer and what is left of the result buffer to the
 -- piece cut, and puts its answer into the next place.
-use Prim.Native.Nat.{◌-◌}
 use lib.ListN.{length}
 use mathlib.Core.Path.{◌≡◌}
 use Rattle.checks.specs.Lines.{record_lines}
@@ -12,6 +11,3 @@ invariant-loop-i l =
     Cutting record_lines l.bytes l.record_ends l.initial.work l.initial.pairs l.work l.pairs l.answers l.from l.used l.i
     × (length l.work ≡ length l.initial.work)
     × (length l.pairs ≡ length l.initial.pairs)
-
-abbrev pub decreases-loop-i : goal.decreases-loop-i
-decreases-loop-i l = length l.record_ends - l.i
