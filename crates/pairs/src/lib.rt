@@ -85,6 +85,7 @@ pub fn write_pairs(word: &[u8], ends: &[u16], pairs: &mut [u16])
     ensures { pairs.new ≡ written (separated_pairs word.now) pairs.old }
 {
     let mut from: u16 = 0;
+    // Written by index: of pieces lent by `chunks_exact_mut` a proof knows no entry afterwards.
     for (i, end) in ends.iter().enumerate() {
         let factor = &word[usize::from(from)..usize::from(*end)];
         pairs[2 * i] = *end;

@@ -108,6 +108,8 @@ pub fn write_ends(word: &[u8], ends: &mut [u16]) -> usize
     ensures count { result ≡ length (separated_cfl_in_ends word.now) }
     ensures stored { ends.new ≡ written (separated_cfl_in_ends word.now) ends.old }
 {
+    // The number is the answer, so it serves as the index; of entries lent by `iter_mut` in a `zip` a proof knows nothing
+    // afterwards.
     let mut count: usize = 0;
     for end in Factors::of(word) {
         ends[count] = end as u16;
