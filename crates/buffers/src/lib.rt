@@ -10,9 +10,5 @@ pub fn clear(buffer: &mut [u16], n: usize)
     requires { n ≤ length buffer.old }
     ensures { buffer.new ≡ cleared n buffer.old }
 {
-    let mut i: usize = 0;
-    while i < n {
-        buffer[i] = 0;
-        i += 1;
-    }
+    buffer[..n].fill(0);
 }

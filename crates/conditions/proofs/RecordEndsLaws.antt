@@ -1,15 +1,17 @@
--- Line 10. A list of record ends that passes climbs from 0 to the number of bytes, with equal neighbours allowed (listed); and the turns of the loop that goes
--- over it (Climbing): whether it falls, and its last end, are those of what is left after the last end.
-use mathlib.Core.Path.{◌≡◌, refl, ap, ◌∙◌}
-use mathlib.Core.Bool.{true, false, not, ◌||◌, true≢false}
+-- Line 10. A list of record ends that passes climbs from 0 to the number of bytes, with equal neighbours allowed (listed); and what the list's
+-- length, order and last entry say of it (unlisted, too-many, unsorted, sorted).
+use mathlib.Core.Path.{◌≡◌, refl, sym, ◌∙◌}
+use mathlib.Core.Bool.{Bool, true, false, not, ◌||◌, true≢false}
 use mathlib.Core.List.{List, [], ◌∷◌}
-use Prim.Native.Nat.{ℕ, ◌+◌, ◌≤◌, ◌<◌}
-use native.Mathlib.Numerals.{add-one}
+use Prim.Native.Nat.{ℕ, zero, suc, ◌+◌, ◌-◌, ◌≤◌, ◌<◌}
 use native.Mathlib.Omega.{arith}
-use lib.ListN.{length, drop, get_or, drop_of_length-le}
-use lib.Seq.{drop-cons}
+use lib.ListN.{length, get_or}
 use lib.Dec.{eqb, ltb}
-use borrow.Author.Tests.{ltb-false, le-ltb, lt-ltb, ne_eqb, eqb-true, eqb-false, not-false}
+use borrow.Author.Tests.{ltb-false, le-ltb, lt-ltb, eqb-true, not-false}
+use Rattle.std.specs.List.{IsAllAdjacentAnswer}
+use Rattle.std.specs.Ordering.{is_le, is_some_and, nat_cmp}
+use Rattle.std.specs.Prelude.{Some}
+use Rattle.std.proofs.lemmas.List.Sorted.{non_decreasing_from_is_sorted}
 use Rattle.conditions.specs.Conditions.{last_of, most_records, falls, are_faulty_record_ends}
 use Rattle.conditions.proofs.ConditionLaws.{either-unmet}
 
@@ -55,67 +57,60 @@ listed (e ∷ es) n f =
       climbs = let h : 0 ≤ e = omega arith in more h (climbing n e es v.0 (eqb-true (last_of e es) n (not-false _ v.1)));
     }
 
--- ---- the loop: the ends before i do not fall, and end at last
+-- ---- what the library's answers on a list say of it
 
-pub record Climbing (es : List ℕ) (last i : ℕ) : Type 0 where
-  pub inside : i ≤ length es
-  pub falls-on : falls (0 ∷ es) ≡ falls (last ∷ drop i es)
-  pub last_on : last_of 0 es ≡ last_of last (drop i es)
+-- whether the ends are sorted, as `is_sorted` answers it
+abbrev pub Sorted : List ℕ → Bool → Type 0
+Sorted es r = IsAllAdjacentAnswer (λ x y b. is_some_and is_le (Some (nat_cmp x y)) ≡ b) es r
 
-pub climbing-starts : (es : List ℕ) → Climbing es 0 0
-climbing-starts es = record { inside = omega arith; falls-on = refl; last_on = refl }
+not-falling : (es : List ℕ) → ((k : ℕ) → k + 1 < length es → get_or es k 0 ≤ get_or es (k + 1) 0) → falls es ≡ false
+unfolding falls
+not-falling [] h = refl
+not-falling (a ∷ []) h = refl
+not-falling (a ∷ b ∷ es) h =
+    rw (le-ltb b a (h 0 (omega arith))) (not-falling (b ∷ es) (λ k l. let z : suc k + 1 ≡ suc (k + 1) = omega arith in rw z at (h (suc k) (omega arith))))
 
--- from 0 on every list begins to climb
-faulty-from : (es : List ℕ) (n : ℕ) → 0 < length es → length es ≤ most_records → are_faulty_record_ends es n ≡ (falls (0 ∷ es) || not (eqb (last_of 0 es) n))
-unfolding are_faulty_record_ends falls last_of
-faulty-from [] n p l = absurd (omega arith)
-faulty-from (e ∷ es) n p l =
-    let short : ltb most_records (length (e ∷ es)) ≡ false = le-ltb most_records (length (e ∷ es)) l in
-    let first : ltb e 0 ≡ false = le-ltb e 0 (omega arith) in
-    rw (short, first) refl
+falling : (es : List ℕ) (k : ℕ) → k + 1 < length es → get_or es (k + 1) 0 < get_or es k 0 → falls es ≡ true
+unfolding falls
+falling [] k l h = absurd (omega arith)
+falling (a ∷ []) k l h = absurd (omega arith)
+falling (a ∷ b ∷ es) zero l h = rw (lt-ltb b a h) refl
+falling (a ∷ b ∷ es) (suc k) l h = either (ltb b a) (falling (b ∷ es) k (omega arith) (let z : suc k + 1 ≡ suc (k + 1) = omega arith in rw z at h))
+  where
+    either : (t : Bool) {u : Bool} → u ≡ true → (t || u) ≡ true
+    either true e = refl
+    either false e = e
 
-pub unlisted : (es : List ℕ) (n : ℕ) → (eqb (length es) 0 || ltb most_records (length es)) ≡ true → true ≡ are_faulty_record_ends es n
+last-at : (a : ℕ) (es : List ℕ) → last_of a es ≡ get_or (a ∷ es) (length es) 0
+unfolding last_of
+last-at a [] = refl
+last-at a (b ∷ es) = last-at b es
+
+pub unlisted : (es : List ℕ) (n : ℕ) → length es ≤ 0 → true ≡ are_faulty_record_ends es n
 unfolding are_faulty_record_ends
-unlisted [] n h = refl
-unlisted (e ∷ es) n h =
-    let some : eqb (length (e ∷ es)) 0 ≡ false = ne_eqb (length (e ∷ es)) 0 (λ z. omega arith) in
-    let many : ltb most_records (length (e ∷ es)) ≡ true = rw some at h in
-    rw many refl
+unlisted [] n l = refl
+unlisted (e ∷ es) n l = absurd (omega arith)
 
-pub listed-some : (es : List ℕ) → (eqb (length es) 0 || ltb most_records (length es)) ≡ false → (0 < length es) × (length es ≤ most_records)
-listed-some es h =
-    let u = either-unmet (eqb (length es) 0) (ltb most_records (length es)) h in
-    (omega (arith, eqb-false (length es) 0 u.0), ltb-false most_records (length es) u.1)
+pub too-many : (es : List ℕ) (n : ℕ) → most_records < length es → true ≡ are_faulty_record_ends es n
+unfolding are_faulty_record_ends
+too-many [] n l = refl
+too-many (e ∷ es) n l = rw (lt-ltb most_records (length (e ∷ es)) l) refl
 
-module _ (es : List ℕ) (last i : ℕ) (g : Climbing es last i) where
-  next : i < length es → drop i es ≡ get_or es i 0 ∷ drop (i + 1) es
-  next l = drop-cons es i 0 l ∙ rw (add-one i) refl
+pub unsorted : (es : List ℕ) (n : ℕ) (r : Bool) → length es ≤ most_records → Sorted es r → not r ≡ true → true ≡ are_faulty_record_ends es n
+unfolding are_faulty_record_ends
+unsorted es n true l s z = absurd (true≢false (sym z))
+unsorted [] n false l s z = refl
+unsorted (e ∷ es) n false l s z =
+    let f = non_decreasing_from_is_sorted (e ∷ es) false s in
+    rw (le-ltb most_records (length (e ∷ es)) l, falling (e ∷ es) f.0 f.1 (f.2 0)) refl
 
-  pub climbing-on : i < length es → last ≤ get_or es i 0 → Climbing es (get_or es i 0) (i + 1)
-  unfolding falls last_of
-  climbing-on l h =
-      let z : ltb (get_or es i 0) last ≡ false = le-ltb (get_or es i 0) last h in
-      record {
-        inside = omega arith;
-        falls-on = g.falls-on ∙ ap (λ (t : List ℕ). falls (last ∷ t)) (next l) ∙ rw z refl;
-        last_on = g.last_on ∙ ap (last_of last) (next l);
-      }
-
-  module _ (n : ℕ) (h : (eqb (length es) 0 || ltb most_records (length es)) ≡ false) where
-    from_first : are_faulty_record_ends es n ≡ (falls (0 ∷ es) || not (eqb (last_of 0 es) n))
-    from_first = let l = listed-some es h in faulty-from es n l.0 l.1
-
-    pub climbing-falls : i < length es → get_or es i 0 < last → true ≡ are_faulty_record_ends es n
-    unfolding falls
-    climbing-falls l k =
-        let z : ltb (get_or es i 0) last ≡ true = lt-ltb (get_or es i 0) last k in
-        let f : falls (0 ∷ es) ≡ true = g.falls-on ∙ ap (λ (t : List ℕ). falls (last ∷ t)) (next l) ∙ rw z refl in
-        rw (from_first, f) refl
-
-    pub climbing-ends : length es ≤ i → not (eqb last n) ≡ are_faulty_record_ends es n
-    unfolding falls last_of
-    climbing-ends l =
-        let none : drop i es ≡ [] = drop_of_length-le es {i = i} l in
-        let f : falls (0 ∷ es) ≡ false = g.falls-on ∙ ap (λ (t : List ℕ). falls (last ∷ t)) none in
-        let e : last_of 0 es ≡ last = g.last_on ∙ ap (last_of last) none in
-        rw (from_first, f, e) refl
+pub sorted : (es : List ℕ) (n last : ℕ) (r : Bool) → length es ≤ most_records → Sorted es r → not r ≡ false → 0 < length es
+    → last ≡ get_or es (length es - 1) 0 → not (eqb last n) ≡ are_faulty_record_ends es n
+unfolding are_faulty_record_ends
+sorted es n last false l s z p e = absurd (true≢false z)
+sorted [] n last true l s z p e = absurd (omega arith)
+sorted (a ∷ es) n last true l s z p e =
+    let f = non_decreasing_from_is_sorted (a ∷ es) true s in
+    let y : suc (length es) - 1 ≡ length es = omega arith in
+    let m : last ≡ last_of a es = e ∙ rw (y, last-at a es) refl in
+    rw (le-ltb most_records (length (a ∷ es)) l, not-falling (a ∷ es) (λ k h. f k (k + 1) 0 (omega arith) h), m) refl

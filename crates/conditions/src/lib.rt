@@ -14,10 +14,8 @@ pub fn is_marked(word: &[u8]) -> bool
     ensures { result ≡ has_mark word.now }
 {
     let mut marked = false;
-    let mut i: usize = 0;
-    while i < word.len() {
-        marked = marked | (word[i] == words::SEPARATOR);
-        i += 1;
+    for letter in word {
+        marked |= *letter == words::SEPARATOR;
     }
     marked
 }
@@ -26,19 +24,8 @@ pub fn is_marked(word: &[u8]) -> bool
 pub fn faulty_record_ends(record_ends: &[u32], bytes: usize) -> bool
     ensures { result ≡ are_faulty_record_ends record_ends.now bytes }
 {
-    let records = record_ends.len();
-    if (records == 0) | (MOST_RECORDS < records) {
+    let Some(last) = record_ends.last() else {
         return true;
-    }
-    let mut last: u32 = 0;
-    let mut i: usize = 0;
-    while i < records {
-        let end = record_ends[i];
-        if end < last {
-            return true;
-        }
-        last = end;
-        i += 1;
-    }
-    last as usize != bytes
+    };
+    MOST_RECORDS < record_ends.len() || !record_ends.is_sorted() || *last as usize != bytes
 }

@@ -1,14 +1,14 @@
 -- Line 7. A list of pairs passes just where it is not empty, its ends rise from 0 to the length and each count is at least 1 and at most its part's length
 -- (pairs-accepted, pairs-pass); so does that of a record's own pairs (own-pairs). Then the turns of the loop that goes over it (PairsLeft): it is paired from 0
 -- on just where what is left is from the last end on.
-use mathlib.Core.Path.{◌≡◌, refl, sym, ◌∙◌}
+use mathlib.Core.Path.{◌≡◌, refl, ap, sym, ◌∙◌}
 use mathlib.Core.Bool.{Bool, true, false, not, ◌||◌, true≢false}
-use mathlib.Core.List.{List, [], ◌∷◌}
-use Prim.Native.Nat.{ℕ, suc, ◌+◌, ◌-◌, ◌*◌, ◌%◌, ◌≤◌, ◌<◌}
+use mathlib.Core.List.{List, [], ◌∷◌, ◌++◌}
+use Prim.Native.Nat.{ℕ, suc, ◌+◌, ◌-◌, ◌%◌, ◌≤◌, ◌<◌}
 use native.Mathlib.Omega.{arith}
-use lib.ListN.{length, drop, get_or, drop_of_length-le}
-use lib.Seq.{drop-cons}
+use lib.ListN.{length, get_or}
 use lib.Dec.{eqb, ltb}
+use Rattle.std.proofs.lemmas.List.{nil_from_length}
 use borrow.Author.Tests.{ltb-false, le-ltb, ne_eqb, eqb-false}
 use Rattle.theory.specs.Orders.Decisions.{Decides, holds, fails, eqb-test}
 use Rattle.words.specs.Pairs.{separated_pairs, ends_of}
@@ -80,27 +80,18 @@ not-paired ps n h = go (are_faulty_pairs ps n) (λ e. h (pairs-accepted ps n e))
     go true g = refl
     go false g = absurd (g refl)
 
--- ---- the loop: the entries before i are pairs from 0 to last
+-- ---- the loop: the pairs so far go from 0 to last, and left are the entries that are still to come
 
-pub record PairsLeft (n : ℕ) (ps : List ℕ) (last i : ℕ) : Type 0 where
-  pub inside : i ≤ length ps
-  pub even : (length ps - i) % 2 ≡ 0
-  pub on : Paired n 0 ps → Paired n last (drop i ps)
-  pub back : Paired n last (drop i ps) → Paired n 0 ps
+pub record PairsLeft (n : ℕ) (ps : List ℕ) (last : ℕ) (left : List ℕ) : Type 0 where
+  pub even : length left % 2 ≡ 0
+  pub on : Paired n 0 ps → Paired n last left
+  pub back : Paired n last left → Paired n 0 ps
 
-pub pairs-odd : (ps : List ℕ) (n : ℕ) → (eqb (length ps) 0 || eqb (length ps % 2) 1) ≡ true → true ≡ are_faulty_pairs ps n
-pairs-odd ps n e = not-paired ps n (λ v. go (eqb-test (length ps) 0) (eqb-test (length ps % 2) 1) v.some (paired-number v.paired) e)
-  where
-    go : {s t : Bool} → Decides (length ps ≡ 0) s → Decides (length ps % 2 ≡ 1) t → 0 < length ps → length ps ≡ 2 * length (ends_of ps) → (s || t) ≡ true → ⊥
-    go (holds z) d l m f = omega arith
-    go (fails z) (holds o) l m f = omega arith
-    go (fails z) (fails o) l m f = true≢false (sym f)
+pub pairs_none : (ps : List ℕ) (n : ℕ) → length ps ≡ 0 → true ≡ are_faulty_pairs ps n
+pairs_none ps n z = not-paired ps n (λ v. omega (arith, v.some))
 
-pub pairs-left : (ps : List ℕ) (n : ℕ) → (eqb (length ps) 0 || eqb (length ps % 2) 1) ≡ false → (0 < length ps) × PairsLeft n ps 0 0
-pairs-left ps n e =
-    let u = either-unmet (eqb (length ps) 0) (eqb (length ps % 2) 1) e in
-    let o = eqb-false (length ps % 2) 1 u.1 in
-    (omega (arith, eqb-false (length ps) 0 u.0), record { inside = omega arith; even = omega (arith, o); on = λ r. r; back = λ r. r })
+pub pairs-odd : (ps : List ℕ) (n : ℕ) → length ps % 2 ≡ 1 → true ≡ are_faulty_pairs ps n
+pairs-odd ps n o = not-paired ps n (λ v. omega (arith, paired-number v.paired))
 
 paired-head : {n b e c : ℕ} {ps : List ℕ} → Paired n b (e ∷ c ∷ ps) → (b < e) × (0 < c) × (c ≤ e - b) × Paired n e ps
 paired-head (more h p q r) = (h, p, q, r)
@@ -108,49 +99,41 @@ paired-head (more h p q r) = (h, p, q, r)
 paired-last : {n b : ℕ} → Paired n b [] → b ≡ n
 paired-last (done z) = z
 
-module _ {n : ℕ} {ps : List ℕ} {last i : ℕ} (g : PairsLeft n ps last i) where
-  module _ (l : i < length ps) where
-    pub pair_inside : i + 1 < length ps
-    pair_inside = omega (arith, g.even)
+two-are : (xs : List ℕ) → length xs ≡ 2 → xs ≡ get_or xs 0 0 ∷ get_or xs 1 0 ∷ []
+two-are [] e = absurd (omega arith)
+two-are (a ∷ []) e = absurd (omega arith)
+two-are (a ∷ b ∷ []) e = refl
+two-are (a ∷ b ∷ c ∷ xs) e = absurd (omega arith)
 
-    abbrev end : ℕ
-    end = get_or ps i 0
+pub pair-taken : {left left' : List ℕ} {end count : ℕ} (pair : List ℕ) → left ≡ pair ++ left' → length pair ≡ 2
+    → end ≡ get_or pair 0 0 → count ≡ get_or pair 1 0 → left ≡ end ∷ count ∷ left'
+pair-taken {left' = left'} pair e two f k = e ∙ ap (λ (t : List ℕ). t ++ left') (two-are pair two) ∙ rw (f, k)
 
-    abbrev count : ℕ
-    count = get_or ps (i + 1) 0
+module _ {n : ℕ} {ps : List ℕ} {last : ℕ} {left : List ℕ} (g : PairsLeft n ps last left) where
+  module _ {end count : ℕ} {left' : List ℕ} (next : left ≡ end ∷ count ∷ left') where
+    pub count_none : count ≡ 0 → true ≡ are_faulty_pairs ps n
+    count_none z = not-paired ps n (λ v. let h = paired-head (rw next at (g.on v.paired)) in omega (arith, h.1))
 
-    next : drop i ps ≡ end ∷ count ∷ drop (i + 2) ps
-    next =
-        let z : suc (i + 1) ≡ i + 2 = omega arith in
-        let y : suc i ≡ i + 1 = omega arith in
-        drop-cons ps i 0 l ∙ rw (y, drop-cons ps (i + 1) 0 pair_inside, z)
+    pub count-past : end < last + count → true ≡ are_faulty_pairs ps n
+    count-past l = not-paired ps n (λ v. let h = paired-head (rw next at (g.on v.paired)) in omega (arith, h.0, h.2))
 
-    pub pair-fails : (eqb count 0 || ltb end (last + count)) ≡ true → true ≡ are_faulty_pairs ps n
-    pair-fails e = not-paired ps n (λ v. let h = paired-head (rw next at (g.on v.paired)) in go h.0 h.1 h.2)
-      where
-        go : last < end → 0 < count → count ≤ end - last → ⊥
-        go l p q = true≢false (sym e ∙ rw (ne_eqb count 0 (λ z. omega arith), le-ltb end (last + count) (omega arith)))
-
-    pub pairs-on : (eqb count 0 || ltb end (last + count)) ≡ false → PairsLeft n ps end (i + 2)
-    pairs-on e =
-        let u = either-unmet (eqb count 0) (ltb end (last + count)) e in
-        let p : 0 < count = omega (arith, eqb-false count 0 u.0) in
-        let q : last + count ≤ end = ltb-false end (last + count) u.1 in
+    pub pairs-on : ¬ (count ≡ 0) → last + count ≤ end → PairsLeft n ps end left'
+    pairs-on m l =
+        let p : 0 < count = omega arith in
         let above : last < end = omega arith in
         let fits : count ≤ end - last = omega arith in
         record {
-          inside = omega (arith, pair_inside);
-          even = omega (arith, g.even, pair_inside);
+          even = omega (arith, g.even, ap length next);
           on = λ r. (paired-head (rw next at (g.on r))).3;
           back = λ r. g.back (rw next (more above p fits r));
         }
 
-  pub pairs_end : length ps ≤ i → 0 < length ps → not (eqb last n) ≡ are_faulty_pairs ps n
+  pub pairs_end : length left < 2 → ¬ (length ps ≡ 0) → not (eqb last n) ≡ are_faulty_pairs ps n
   pairs_end l p = go (eqb-test last n)
     where
-      none : drop i ps ≡ []
-      none = drop_of_length-le ps {i = i} l
+      none : left ≡ []
+      none = nil_from_length left (omega (arith, g.even))
 
       go : {t : Bool} → Decides (last ≡ n) t → not t ≡ are_faulty_pairs ps n
-      go (holds e) = sym (pairs-pass ps n (record { some = p; paired = g.back (rw none (done e)) }))
+      go (holds e) = sym (pairs-pass ps n (record { some = omega arith; paired = g.back (rw none (done e)) }))
       go (fails m) = not-paired ps n (λ v. m (paired-last (rw none at (g.on v.paired))))

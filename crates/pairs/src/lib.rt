@@ -34,7 +34,7 @@ pub fn factor_from(pairs: &[u16], number: usize) -> u16
     if number == 0 {
         return 0;
     }
-    pairs[2 * number - 2]
+    factor_end(pairs, number - 1)
 }
 
 /// Where a part ends.
@@ -50,21 +50,18 @@ pub fn factor_end(pairs: &[u16], number: usize) -> u16
 pub fn faulty_pairs(pairs: &[u16], letters: usize) -> bool
     ensures { result ≡ are_faulty_pairs pairs.now letters }
 {
-    let entries = pairs.len();
-    if (entries == 0) | (entries % 2 == 1) {
+    if pairs.is_empty() || pairs.len() % 2 == 1 {
         return true;
     }
     let mut last: usize = 0;
-    let mut i: usize = 0;
-    while i < entries {
-        let end = pairs[i] as usize;
-        let count = pairs[i + 1] as usize;
+    for pair in pairs.chunks_exact(2) {
+        let end = usize::from(pair[0]);
+        let count = usize::from(pair[1]);
         // With a count above 0 the second test is also that the end is above the last.
-        if (count == 0) | (end < last + count) {
+        if count == 0 || end < last + count {
             return true;
         }
         last = end;
-        i += 2;
     }
     last != letters
 }
@@ -87,14 +84,12 @@ pub fn write_pairs(word: &[u8], ends: &[u16], pairs: &mut [u16])
     requires { PairsRoom word.now ends.now pairs.old }
     ensures { pairs.new ≡ written (separated_pairs word.now) pairs.old }
 {
-    let mut from: usize = 0;
-    let mut i: usize = 0;
-    while i < ends.len() {
-        let end = ends[i] as usize;
-        let inside = count_inside(&word[from..end]);
-        pairs[2 * i] = end as u16;
-        pairs[2 * i + 1] = inside as u16;
-        from = end;
-        i += 1;
+    let mut from: u16 = 0;
+    // Written by index: of pieces lent by `chunks_exact_mut` a proof knows no entry afterwards.
+    for (i, end) in ends.iter().enumerate() {
+        let factor = &word[usize::from(from)..usize::from(*end)];
+        pairs[2 * i] = *end;
+        pairs[2 * i + 1] = count_inside(factor) as u16;
+        from = *end;
     }
 }

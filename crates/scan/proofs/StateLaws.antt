@@ -1,11 +1,13 @@
--- A step of the state is one letter more of the scan (stepped), so a loop that steps comes nearer to the word's end (nearer).
+-- A step of the state is one letter more of the scan (stepped), and the letters that are still to be read (left-count, left-at).
 use mathlib.Core.Path.{◌≡◌, refl}
 use mathlib.Core.Bool.{Bool, true, false}
 use mathlib.Core.List.{List}
 use Prim.Native.Nat.{ℕ, suc, ◌+◌, ◌-◌, ◌≤◌, ◌<◌}
 use native.Mathlib.Numerals.{add-one}
 use native.Mathlib.Omega.{arith}
-use lib.ListN.{length, get_or}
+use lib.ListN.{length, get_or, length-drop}
+use lib.Seq.{get_or-drop}
+use Rattle.buffers.proofs.PartLaws.{rest, rest-is}
 use Rattle.theory.specs.Orders.Decisions.{Decides, holds, fails, eqb-test}
 use Rattle.theory.specs.Scan.Scanned.{Scanned}
 use Rattle.theory.specs.Scan.Scanned.{scanned-same, scanned-less}
@@ -25,6 +27,9 @@ stepped w s t h l m e = rw e (record { scanned = rw (add-one s.length) (go (eqb-
     go (holds z) = rw (add-one s.border) (scanned-same h l z)
     go (fails z) = scanned-less h l (omega arith)
 
-pub nearer : (n : ℕ) (s t : Scan) (a b : ℕ) → s.length < n → t ≡ step_state s a b → n - t.length < n - s.length
-unfolding step_state
-nearer n s t a b l e = rw e (omega arith)
+-- the letters from a place on: how many, and which
+pub left-count : (w : List ℕ) (a : ℕ) → length (rest a w) ≡ length w - a
+left-count w a = rw (rest-is a w) (length-drop a w)
+
+pub left-at : (w : List ℕ) (a i k : ℕ) → k ≡ a + i → get_or (rest a w) i 0 ≡ get_or w k 0
+left-at w a i k e = rw (rest-is a w, e) (get_or-drop a w i 0)

@@ -6,7 +6,7 @@ ghost use Rattle.scan.specs.State.{start_state, step_state, Short, Resumes, Rest
 
 /// The scan's state (paper 01: a state with two places): the number of letters read, and the length of their longest
 /// border, which is the place of the letter that the next one meets.
-#[derive(Drop)]
+#[derive(Clone, Copy)]
 pub struct Scan {
     pub border: usize,
     pub length: usize,
@@ -47,15 +47,12 @@ pub fn scan_on(word: &[u8], from: Scan) -> Scan
     ensures { Rests word.now result }
 {
     let mut s = from;
-    while s.length < word.len() {
-        let at = s.length;
-        let border = s.border;
-        let new = word[at];
-        let met = word[border];
-        if met < new {
+    for new in &word[from.length..] {
+        let met = word[s.border];
+        if met < *new {
             return s;
         }
-        s = s.step(new, met);
+        s = s.step(*new, met);
     }
     s
 }

@@ -1,15 +1,13 @@
--- The walk over the factors of the strict cut, over plain lists. What is still to come from a place on are the ends of the strict cut of the rest;
--- each turn takes one end from it (end-taken).
+-- The walk over the factors of the strict cut, over plain lists. What is still to come from a place on are the ends of the strict cut of the rest
+-- (all_left, none_left, some_left); a run that is found is a factor there, and one at each place where it repeats (run-repeats).
 use mathlib.Core.Path.{◌≡◌, refl, ap, sym, ◌∙◌}
-use mathlib.Core.Bool.{Bool, true, false, true≢false}
-use mathlib.Core.List.{List, [], ◌∷◌, ◌++◌, flatten, append_assoc, append-nil}
-use Prim.Native.Nat.{ℕ, suc, ◌+◌, ◌-◌, ◌≤◌, ◌<◌}
+use mathlib.Core.List.{List, [], ◌∷◌, flatten}
+use Prim.Native.Nat.{ℕ, zero, suc, ◌+◌, ◌-◌, ◌*◌, ◌≤◌, ◌<◌}
 use native.Mathlib.Numerals.{add-one}
 use native.Mathlib.Omega.{arith}
-use lib.ListN.{length, take, drop, get_or, set, length-set, length-drop, drop_of_length-le, take-append-drop}
-use lib.Seq.{get_or-take, get_or-drop, drop-cons, take-suc-set, drop-set-lt, drop-drop, length-take-le}
+use lib.ListN.{length, take, drop, get_or, length-drop, drop_of_length-le}
+use lib.Seq.{get_or-take, get_or-drop, drop-cons, drop-drop, length-take-le}
 use Rattle.words.specs.Words.{most_letters}
-use Rattle.buffers.proofs.BufferLaws.{kept-past}
 use Rattle.buffers.proofs.PartLaws.{rest, rest-is}
 use Rattle.words.specs.Factorizations.{longest_anti_lyndon, ends_from}
 use Rattle.words.specs.Separated.{separator, separated_cfl_in, separated_cfl_in_ends}
@@ -21,9 +19,16 @@ use Rattle.theory.specs.Scan.Scanned.{scanned-one, scanned-longest, scanned-afte
 use Rattle.scan.specs.declared.Scan.{Scan}
 use Rattle.scan.specs.State.{start_state, Resumes, Rests}
 use Rattle.strict.specs.declared.Run.{Run}
-use Rattle.strict.specs.Walk.{RunAt, alone, repeated, Room, Walked}
+use Rattle.strict.specs.Walk.{ends_left, FactorAt, Repeats}
 
 -- ---- one factor, and its repetitions
+
+-- the first factor from a place on has r.length letters, and so has each after it that begins before r.until: it is a separator, or a scan from there has
+-- stopped, in which the separator is a letter as any other
+pub data RunAt (w : List ℕ) (from : ℕ) (r : Run) : Type 0 where
+  alone : get_or w from 0 ≡ separator → r.length ≡ 1 → r.until ≡ from + 1 → RunAt w from r
+  repeated : get_or w from 0 < separator → from < r.until
+      → Rests (drop from w) (record { border = r.until - 1 - from; length = r.until - 1 - from + r.length }) → RunAt w from r
 
 -- a repetition stops where the first one does
 stops-after : (v : List ℕ) (b p : ℕ) → Stops v (b + p) b → p ≤ b → Stops (drop p v) b (b - p)
@@ -42,15 +47,15 @@ letter-again {v} {n} {b} s p e l =
     ∙ get_or-take b v 0 0 (omega (arith, s.shorter))
 
 module _ {w : List ℕ} {from : ℕ} {r : Run} where
-  pub run-positive : RunAt w from r → 0 < r.length
+  run-positive : RunAt w from r → 0 < r.length
   run-positive (alone m e u) = omega arith
   run-positive (repeated m l t) = omega (arith, t.scanned.shorter)
 
-  pub run_inside : RunAt w from r → from < length w → from + r.length ≤ length w
+  run_inside : RunAt w from r → from < length w → from + r.length ≤ length w
   run_inside (alone m e u) i = omega arith
   run_inside (repeated m l t) i = omega (arith, t.scanned.inside, length-drop from w)
 
-  pub run-again : RunAt w from r → from + r.length < r.until → RunAt w (from + r.length) r
+  run-again : RunAt w from r → from + r.length < r.until → RunAt w (from + r.length) r
   run-again (alone m e u) l = absurd (omega arith)
   run-again (repeated m k t) l =
       let b = r.until - 1 - from in
@@ -80,9 +85,6 @@ run-scanned w from s l t =
 
 -- ---- the ends that are still to come
 
-abbrev pub ends_left : List ℕ → ℕ → List ℕ
-ends_left w from = ends_from from (separated_cfl_in (drop from w))
-
 pub all_left : (w : List ℕ) → ends_left w 0 ≡ separated_cfl_in_ends w
 unfolding separated_cfl_in_ends
 all_left w = refl
@@ -100,7 +102,7 @@ some_left w from l e = go (separated_cfl_in (drop from w)) (separated-cfl-in-con
     go [] p q = omega (arith, length-drop from w, sym (ap length p))
     go (m ∷ ms) p q = omega (arith, ap length q)
 
-pub end-taken : {w : List ℕ} {from : ℕ} {r : Run} → RunAt w from r → from < length w → ends_left w from ≡ (from + r.length) ∷ ends_left w (from + r.length)
+end-taken : {w : List ℕ} {from : ℕ} {r : Run} → RunAt w from r → from < length w → ends_left w from ≡ (from + r.length) ∷ ends_left w (from + r.length)
 unfolding ends_from
 end-taken {w} {from} {r} (alone m e u) l = rw (drop-cons w from 0 l, m, separated-cfl-in-separator (drop (suc from) w), e, add-one from)
 end-taken {w} {from} {r} (repeated m k t) l =
@@ -110,66 +112,25 @@ end-taken {w} {from} {r} (repeated m k t) l =
     let z : from + 0 ≡ from = omega arith in
     rw (separated-cfl-in-letter (drop from w) (rw length-drop (omega arith)) (rw (get_or-drop from w 0 0, z) m), longest, size, drop-drop r.length from w)
 
--- ---- the loop
+-- ---- a run as the walk knows it
 
--- count ends are found, those of the factors before from; entries 0 to count hold them, if they are stored, and the later ones are as they were
-pub record Walking (w buffer₀ buffer : List ℕ) (store : Bool) (run : Run) (from count : ℕ) : Type 0 where
-  pub inside : from ≤ length w
-  pub few : count ≤ from
-  pub run-right : from < run.until → RunAt w from run
-  pub number : count + length (ends_left w from) ≡ length (separated_cfl_in_ends w)
-  pub content : store ≡ true → take count buffer ++ ends_left w from ≡ separated_cfl_in_ends w
-  pub untouched : store ≡ false → buffer ≡ buffer₀
-  pub later : drop count buffer ≡ drop count buffer₀
-  pub long : length buffer ≡ length buffer₀
+run_begins : {w : List ℕ} {from : ℕ} {r : Run} → RunAt w from r → from < r.until
+run_begins (alone m e u) = omega arith
+run_begins (repeated m l t) = l
 
-pub walk_start : (w buffer : List ℕ) (store : Bool) → Walking w buffer buffer store (record { length = 0; until = 0 }) 0 0
-walk_start w buffer store = record {
-  inside = omega arith;
-  few = omega arith;
-  run-right = λ l. absurd (omega arith);
-  number = rw (all_left w) (omega arith);
-  content = λ e. all_left w;
-  untouched = λ e. refl;
-  later = refl;
-  long = refl;
-}
+run-inside-again : {w : List ℕ} {from : ℕ} {r : Run} → RunAt w from r → from + r.length < r.until → from + r.length < length w
+run-inside-again (alone m e u) l = omega arith
+run-inside-again {w} {from} (repeated m k t) l = omega (arith, t.scanned.inside, length-drop from w)
 
-module _ {w buffer₀ buffer : List ℕ} {store : Bool} {s : Run} {from count : ℕ} (g : Walking w buffer₀ buffer store s from count) where
-  module _ (l : from < length w) {r : Run} (t : RunAt w from r) where
-    turn : (buffer' : List ℕ) → (store ≡ true → take (count + 1) buffer' ++ ends_left w (from + r.length) ≡ separated_cfl_in_ends w)
-        → (store ≡ false → buffer' ≡ buffer₀) → drop (count + 1) buffer' ≡ drop (count + 1) buffer → length buffer' ≡ length buffer
-        → Walking w buffer₀ buffer' store r (from + r.length) (count + 1)
-    turn buffer' x u d y = record {
-      inside = run_inside t l;
-      few = omega (arith, g.few, run-positive t);
-      run-right = run-again t;
-      number = omega (arith, g.number, ap length (end-taken t l));
-      content = x;
-      untouched = u;
-      later = d ∙ kept-past count (count + 1) buffer buffer₀ (omega arith) g.later;
-      long = y ∙ g.long;
-    }
+repeats-at : {w : List ℕ} {r : Run} (from : ℕ) → RunAt w from r → from < length w → (k : ℕ) → from + k * r.length < r.until
+    → FactorAt w (from + k * r.length) r.length
+repeats-at {w} {r} from t i zero l =
+    let z : from + 0 * r.length ≡ from = omega arith in
+    rw z (record { some = run-positive t; inside = run_inside t i; ends = end-taken t i })
+repeats-at {w} {r} from t i (suc k) l =
+    let z : from + suc k * r.length ≡ from + r.length + k * r.length = omega arith in
+    let again : from + r.length < r.until = omega arith in
+    rw z (repeats-at (from + r.length) (run-again t again) (run-inside-again t again) k (rw z at l))
 
-    pub walk-room : Room w buffer₀ store → store ≡ true → count < length buffer
-    walk-room m e = omega (arith, g.number, g.long, m.entries e, ap length (end-taken t l))
-
-    pub walk-counts : store ≡ false → Walking w buffer₀ buffer store r (from + r.length) (count + 1)
-    walk-counts e = turn buffer (λ z. absurd (true≢false (sym z ∙ e))) g.untouched refl refl
-
-    pub walk-stores : store ≡ true → count < length buffer → Walking w buffer₀ (set buffer count (from + r.length)) store r (from + r.length) (count + 1)
-    walk-stores e m = let end = from + r.length in
-        turn (set buffer count end)
-        (λ z. rw (add-one count, take-suc-set buffer count end m, append_assoc) (rw (end-taken t l) at (g.content e)))
-        (λ z. absurd (true≢false (sym e ∙ z))) (drop-set-lt (count + 1) buffer count end (omega arith)) (length-set buffer count end)
-
-  pub walk_ends : length w ≤ from → Walked w buffer₀ store count buffer
-  walk_ends l =
-      let n : count ≡ length (separated_cfl_in_ends w) = omega (arith, g.number, ap length (none_left w from l)) in
-      record {
-        count = n;
-        stored = λ e.
-            let x : take count buffer ≡ separated_cfl_in_ends w = sym (append-nil (take count buffer)) ∙ (rw (none_left w from l) at (g.content e)) in
-            sym (take-append-drop count buffer) ∙ rw (x, g.later, n);
-        kept = g.untouched;
-      }
+pub run-repeats : {w : List ℕ} {from : ℕ} {r : Run} → RunAt w from r → from < length w → (from < r.until) × Repeats w from r
+run-repeats {w} {from} t i = (run_begins t, repeats-at from t i)

@@ -1,26 +1,31 @@
-//! The walk over the anti-Lyndon factors of a word (paper 01: its strict pieces), stretch by stretch (request 103), by
-//! Duval's algorithm on the shared scan.
+//! The anti-Lyndon factors of a word (paper 01: its strict pieces), stretch by stretch (request 103), one after another
+//! by Duval's algorithm on the shared scan.
 #![tactic(auto)]
 
-ghost use Rattle.std.specs.Prelude.{◌≡◌, ◌≤◌, length};
+ghost use Rattle.std.specs.Prelude.{◌≡◌, ◌≤◌, ◌<◌, length};
+ghost use Rattle.std.specs.Iterator.{YieldsFirst, item_count};
+ghost use Rattle.buffers.specs.Buffers.{written};
 ghost use Rattle.words.specs.Words.{most_letters};
 ghost use Rattle.words.specs.Separated.{separated_cfl_in_ends};
-ghost use Rattle.strict.specs.Walk.{RunAsked, RunAt, Room, Walked};
+ghost use Rattle.strict.specs.Walk.{Repeats};
 
 use scan::Scan;
 
-/// A factor that is repeated: its length, and the place before which each of its repetitions begins.
-#[derive(Drop)]
-pub struct Run {
-    pub length: usize,
-    pub until: usize,
+// A factor that is repeated: its length, and the place before which each of its repetitions begins.
+#[derive(Clone, Copy)]
+struct Run {
+    length: usize,
+    until: usize,
 }
 
-/// The run at `from`: the one that is known, a separator alone, or that of the longest anti-Lyndon prefix there, from a
-/// scan. A scan that begins below the separator stops before the next one by itself, since no letter is larger.
-pub fn run_at(word: &[u8], from: usize, known: Run) -> Run
-    requires { RunAsked word.now from known }
-    ensures { RunAt word.now from result }
+// The run at `from`: the one that is known, a separator alone, or that of the longest anti-Lyndon prefix there, from a
+// scan. A scan that begins below the separator stops before the next one by itself, since no letter is larger.
+fn run_at(word: &[u8], from: usize, known: Run) -> Run
+    requires short { length word.now ≤ most_letters }
+    requires inside { from < length word.now }
+    requires right { Repeats word.now from known }
+    ensures begins { from < result.until }
+    ensures right { Repeats word.now from result }
 {
     if from < known.until {
         return known;
@@ -31,35 +36,61 @@ pub fn run_at(word: &[u8], from: usize, known: Run) -> Run
             until: from + 1,
         };
     }
-    let start = Scan::start();
-    let s = scan::scan_on(&word[from..], start);
-    let border = s.border;
+    let s = scan::scan_on(&word[from..], Scan::start());
     Run {
-        length: s.length - border,
-        until: from + border + 1,
+        length: s.length - s.border,
+        until: from + s.border + 1,
     }
 }
 
-/// Counts the factors, and stores their ends where `store` says so.
-pub fn walk(word: &[u8], ends: &mut [u16], store: bool) -> usize
-    requires { Room word.now ends.old store }
-    ensures { Walked word.now ends.old store result ends.new }
-{
-    let mut run = Run {
-        length: 0,
-        until: 0,
-    };
-    let mut from: usize = 0;
-    let mut count: usize = 0;
-    while from < word.len() {
-        run = run_at(word, from, run);
-        from += run.length;
-        if store {
-            ends[count] = from as u16;
+/// An iterator over the ends of a word's anti-Lyndon factors, from first to last: where it stands, and the factor that
+/// it found last.
+#[derive(Drop)]
+pub struct Factors<'a> {
+    word: &'a [u8],
+    from: usize,
+    run: Run,
+    ghost short: { length word.now ≤ most_letters },
+    ghost inside: { from ≤ length word.now },
+    ghost right: { Repeats word.now from run },
+}
+
+impl<'a> Factors<'a> {
+    ghost use Rattle.strict.specs.Left.{factors_left};
+
+    /// The factors of a record that was accepted, or of a part of one.
+    pub fn of(word: &'a [u8]) -> Factors<'a>
+        requires { length word.now ≤ most_letters }
+        ensures { factors_left result ≡ separated_cfl_in_ends word.now }
+    {
+        Factors {
+            word,
+            from: 0,
+            run: Run {
+                length: 0,
+                until: 0,
+            },
         }
-        count += 1;
     }
-    count
+}
+
+impl<'a> Iterator for Factors<'a> {
+    ghost use Rattle.strict.specs.Left.{factors_left};
+
+    type Item = usize;
+
+    ghost next_gives = { YieldsFirst factors_left };
+
+    ghost remaining = { item_count factors_left };
+
+    fn next(&mut self) -> Option<usize> {
+        if self.from == self.word.len() {
+            return None;
+        }
+        self.run = run_at(self.word, self.from, self.run);
+        self.from += self.run.length;
+        Some(self.from)
+    }
 }
 
 /// The number of factors of a word: of a record that was accepted, or of a part of one. Nothing is stored.
@@ -67,6 +98,22 @@ pub fn count_factors(word: &[u8]) -> usize
     requires { length word.now ≤ most_letters }
     ensures { result ≡ length (separated_cfl_in_ends word.now) }
 {
-    let mut none = [0u16; 0];
-    walk(word, &mut none, false)
+    Factors::of(word).count()
+}
+
+/// Writes the ends of the factors to the front of `ends`, and answers their number.
+pub fn write_ends(word: &[u8], ends: &mut [u16]) -> usize
+    requires short { length word.now ≤ most_letters }
+    requires room { length (separated_cfl_in_ends word.now) ≤ length ends.old }
+    ensures count { result ≡ length (separated_cfl_in_ends word.now) }
+    ensures stored { ends.new ≡ written (separated_cfl_in_ends word.now) ends.old }
+{
+    // The number is the answer, so it serves as the index; of entries lent by `iter_mut` in a `zip` a proof knows nothing
+    // afterwards.
+    let mut count: usize = 0;
+    for end in Factors::of(word) {
+        ends[count] = end as u16;
+        count += 1;
+    }
+    count
 }

@@ -1,22 +1,29 @@
--- Each turn takes one end that is not below the last; the list passes where the last of them is the number of bytes.
-use native.Mathlib.Omega.{arith}
-use Rattle.conditions.proofs.RecordEndsLaws.{climbing-starts, climbing-on, climbing-falls, climbing-ends, unlisted}
+-- The list passes where it is neither empty nor too long, does not fall, and its last end is the number of bytes.
+use mathlib.Core.Path.{sym, ◌∙◌}
+use mathlib.Core.Bool.{true≢false}
+use borrow.Author.Tests.{lt-ltb}
+use Rattle.conditions.proofs.RecordEndsLaws.{unlisted, too-many, unsorted, sorted}
 use Rattle.conditions.proofs.faulty_record_ends.Goals as goal
+use Rattle.conditions.proofs.faulty_record_ends.Goals.{then-record_ends-gt-MOST_RECORDS, else-record_ends-gt-MOST_RECORDS}
 
-pub returns-then-records : goal.returns-then-records
-returns-then-records c = unlisted _ _ c.if-records.true
+pub returns-in_default : goal.returns-in_default
+returns-in_default c = unlisted _ _ c.in_default.ensures.item.3
 
-pub loop-i-init : goal.loop-i-init
-loop-i-init c = (climbing-starts _, omega arith)
+pub returns-then-not-is_sorted : goal.returns-then-not-is_sorted
+returns-then-not-is_sorted c =
+    let e = c.if-not-is_sorted.true in
+    rw e (elim c.if-record_ends-gt-MOST_RECORDS.branch [
+      | then-record_ends-gt-MOST_RECORDS w ↦ too-many _ _ w.if-record_ends-gt-MOST_RECORDS.true
+      | else-record_ends-gt-MOST_RECORDS w ↦
+          unsorted _ _ _ w.if-record_ends-gt-MOST_RECORDS.false w.is_sorted.ensures.cases (sym w.value-is ∙ e)
+    ])
 
-pub returns-then-end-last : goal.returns-then-end-last
-returns-then-end-last c =
-    climbing-falls _ _ _ c.loop-i.invariant.0 _ c.if-records.false c.loop-i-test.true c.if-end-last.true
-
-pub loop-i-preserved : goal.loop-i-preserved
-loop-i-preserved c =
-    let at = c.loop-i in
-    (climbing-on _ _ _ at.invariant.0 c.loop-i-test.true c.if-end-last.false, omega (arith, c.type_inv.record_ends at.i))
-
-pub returns : goal.returns
-returns c = climbing-ends _ _ _ c.loop-i.invariant.0 _ c.if-records.false c.loop-i-test.false
+pub returns-else-not-is_sorted : goal.returns-else-not-is_sorted
+returns-else-not-is_sorted c =
+    let e = c.if-not-is_sorted.false in
+    elim c.if-record_ends-gt-MOST_RECORDS.branch [
+      | then-record_ends-gt-MOST_RECORDS w ↦ absurd (true≢false (sym (lt-ltb _ _ w.if-record_ends-gt-MOST_RECORDS.true) ∙ sym w.value-is ∙ e))
+      | else-record_ends-gt-MOST_RECORDS w ↦
+          let last = c.in-Some.ensures.item in
+          sorted _ _ _ _ w.if-record_ends-gt-MOST_RECORDS.false w.is_sorted.ensures.cases (sym w.value-is ∙ e) last.3.0 (last.3.1 0)
+    ]

@@ -2,11 +2,11 @@
 use Rattle.conditions.proofs.MarkLaws.{looked-starts, looked-on, looked-at-all}
 use Rattle.conditions.proofs.is_marked.Goals as goal
 
-pub loop-i-init : goal.loop-i-init
-loop-i-init c = looked-starts _
+pub loop-letter-init : goal.loop-letter-init
+loop-letter-init c = looked-starts _
 
-pub loop-i-preserved : goal.loop-i-preserved
-loop-i-preserved c = looked-on c.loop-i.invariant c.loop-i-test.true
+pub loop-letter-preserved : goal.loop-letter-preserved
+loop-letter-preserved c = looked-on c.loop-letter.invariant c.loop-letter-test.true
 
 pub returns : goal.returns
-returns c = looked-at-all c.loop-i.invariant c.loop-i-test.false
+returns c = looked-at-all c.loop-letter.invariant c.loop-letter-test.false

@@ -1,36 +1,45 @@
 -- Each turn takes one pair whose count is not 0 and reaches no further from the last end than its own end; the list passes where the last end is the length.
-use Prim.Native.Nat.{◌+◌}
+use mathlib.Core.Path.{◌≡◌, sym, ◌∙◌}
+use mathlib.Core.List.{◌∷◌}
 use native.Mathlib.Omega.{arith}
-use Rattle.pairs.proofs.PairsLaws.{pairs-odd, pairs-left, pair_inside, pair-fails, pairs-on, pairs_end}
+use borrow.Author.Tests.{eqb-true, eqb-false}
+use Rattle.std.specs.Slice.Iter.{chunks_exact_rest}
+use Rattle.pairs.proofs.PairsLaws.{pairs_none, pairs-odd, pair-taken, count_none, count-past, pairs-on, pairs_end}
 use Rattle.pairs.proofs.faulty_pairs.Goals as goal
+use Rattle.pairs.proofs.faulty_pairs.Goals.{then-is_empty-via-then-is_empty, then-is_empty-via-else-is_empty+then-pairs-eq1}
+use Rattle.pairs.proofs.faulty_pairs.Goals.{then-count-eq0-via-then-count-eq0, then-count-eq0-via-else-count-eq0+then-end-last}
+use Rattle.pairs.proofs.faulty_pairs.Goals.{After-from-count}
 
-pub returns-then-entries : goal.returns-then-entries
-returns-then-entries c = pairs-odd _ _ c.if-entries.true
+taken : (c : After-from-count)
+    → chunks_exact_rest c.loop-pair.pair-iterator ≡ c.from-end.result ∷ c.from-count.result ∷ chunks_exact_rest c.next.new.self
+taken c =
+    let got = c.in-Some.ensures.steps.1 in
+    pair-taken _ got.0 (got.1 ∙ c.loop-pair.invariant.1) c.from-end.ensures c.from-count.ensures
 
-pub loop-i-init : goal.loop-i-init
-loop-i-init c = ((pairs-left _ _ c.if-entries.false).1, omega arith)
+pub returns-then-is_empty : goal.returns-then-is_empty
+returns-then-is_empty c =
+    elim c.then-is_empty.branch [
+      | then-is_empty-via-then-is_empty w ↦ pairs_none _ _ (eqb-true _ _ (sym c.is_empty.ensures ∙ w.if-is_empty.true))
+      | then-is_empty-via-else-is_empty+then-pairs-eq1 w ↦ pairs-odd _ _ w.if-pairs-eq1.true
+    ]
 
-pub overflow_cast-end : goal.overflow_cast-end
-overflow_cast-end c = omega (arith, (c.shared_slice_known-1.given c.loop-i.i).fits)
+pub returns-then-count-eq0 : goal.returns-then-count-eq0
+returns-then-count-eq0 c =
+    let next = taken (goal.at.returns-then-count-eq0 c).After-from-count in
+    elim c.then-count-eq0.branch [
+      | then-count-eq0-via-then-count-eq0 w ↦ count_none c.loop-pair.invariant.0 next w.if-count-eq0.true
+      | then-count-eq0-via-else-count-eq0+then-end-last w ↦ count-past c.loop-pair.invariant.0 next w.if-end-last.true
+    ]
 
-pub bounds-pairs-i-in-loop-i : goal.bounds-pairs-i-in-loop-i
-bounds-pairs-i-in-loop-i c = pair_inside c.loop-i.invariant.0 c.loop-i-test.true
-
-pub overflow_cast-count : goal.overflow_cast-count
-overflow_cast-count c = omega (arith, (c.shared_slice_known-in-loop-i-1.given (c.loop-i.i + 1)).fits)
-
-pub overflow_add-last : goal.overflow_add-last
-overflow_add-last c = omega (arith, c.loop-i.invariant.1, (c.shared_slice_known-in-loop-i-1.given (c.loop-i.i + 1)).fits)
-
-pub returns-then-count-end : goal.returns-then-count-end
-returns-then-count-end c = pair-fails c.loop-i.invariant.0 c.loop-i-test.true c.if-count-end.true
-
-pub loop-i-preserved : goal.loop-i-preserved
-loop-i-preserved c =
-    let at = c.loop-i in
-    (pairs-on at.invariant.0 c.loop-i-test.true c.if-count-end.false, omega (arith, (c.shared_slice_known-1.given at.i).fits))
+pub loop-pair-preserved : goal.loop-pair-preserved
+loop-pair-preserved c =
+    let next = taken (goal.at.loop-pair-preserved c).After-from-count in (
+      pairs-on c.loop-pair.invariant.0 next c.if-count-eq0.false c.if-end-last.false,
+      c.in-Some.ensures.steps.0 ∙ c.loop-pair.invariant.1,
+      omega arith,
+    )
 
 pub returns : goal.returns
 returns c =
-    let some = (pairs-left c.args.pairs.now 0 c.if-entries.false).0 in
-    pairs_end c.loop-i.invariant.0 c.loop-i-test.false some
+    let some = eqb-false _ _ (sym c.is_empty.ensures ∙ c.if-is_empty.false) in
+    pairs_end c.loop-pair.invariant.0 (omega (arith, c.in-None.ensures.steps.1.0, c.loop-pair.invariant.1)) some

@@ -1,11 +1,6 @@
 -- Each turn counts one piece; the pairs so far and those still to come are all pairs.
-use Prim.Native.Nat.{◌-◌}
-use lib.ListN.{length}
 use Rattle.pairs.proofs.PairingLaws.{Pairing}
 use Rattle.pairs.proofs.write_pairs.Given as goal
 
 abbrev pub invariant-loop-i : goal.invariant-loop-i
 invariant-loop-i l = Pairing l.word l.ends l.initial.pairs l.pairs l.from l.i
-
-abbrev pub decreases-loop-i : goal.decreases-loop-i
-decreases-loop-i l = length l.ends - l.i

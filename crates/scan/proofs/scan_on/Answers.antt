@@ -1,22 +1,30 @@
 -- Each step keeps that the letters read are inverse Lyndon with the state's border as their longest.
 use native.Mathlib.Omega.{arith}
-use Rattle.scan.proofs.StateLaws.{nearer, stepped}
+use Prim.Native.Nat.{◌<◌}
+use lib.ListN.{length}
+use Rattle.scan.proofs.StateLaws.{stepped, left-count, left-at}
 use Rattle.scan.proofs.scan_on.Goals as goal
 
-pub loop-s-init : goal.loop-s-init
-loop-s-init c = c.requires.scanned
+pub loop-new-init : goal.loop-new-init
+loop-new-init c = (c.requires.scanned, omega arith)
 
 pub returns-then-met-new : goal.returns-then-met-new
-returns-then-met-new c = record { scanned = c.loop-s.invariant; stops = λ l. c.if-met-new.true }
+returns-then-met-new c = record {
+  scanned = c.loop-new.invariant.0;
+  stops = λ l. rw (left-at _ _ _ _ c.loop-new.invariant.1) at c.if-met-new.true;
+}
 
-pub loop-s-smaller : goal.loop-s-smaller
-loop-s-smaller c =
-    nearer _ c.loop-s.s c.step-s.result _ _ c.loop-s-test.true c.step-s.ensures
-
-pub loop-s-preserved : goal.loop-s-preserved
-loop-s-preserved c =
-    (stepped c.args.word.now c.loop-s.s c.step-s.result c.loop-s.invariant c.loop-s-test.true c.if-met-new.false
-    c.step-s.ensures).scanned
+pub loop-new-preserved : goal.loop-new-preserved
+loop-new-preserved c =
+    let w = c.args.word.now in
+    let at = c.loop-new in
+    let read = left-at w c.args.from.length at.new-index at.s.length at.invariant.1 in
+    let inside : at.s.length < length w = omega (arith, c.loop-new-test.true, left-count w c.args.from.length, at.invariant.1) in
+    let next = stepped w at.s c.step-s.result at.invariant.0 inside (rw read at c.if-met-new.false) (rw read at c.step-s.ensures) in
+    (next.scanned, omega (arith, next.longer, at.invariant.1))
 
 pub returns : goal.returns
-returns c = record { scanned = c.loop-s.invariant; stops = λ l. absurd (omega arith) }
+returns c = record {
+  scanned = c.loop-new.invariant.0;
+  stops = λ l. absurd (omega (arith, c.loop-new-test.false, left-count c.args.word.now c.args.from.length, c.loop-new.invariant.1));
+}

@@ -1,7 +1,10 @@
-use borrow.Author.Rules.{rules}
-use mathlib.Core.Path.{sym}
-use mathlib.Core.Bool.{true≢false}
+-- There are no more factors than letters.
+use mathlib.Core.Path.{ap}
+use Rattle.std.proofs.Common.{inl}
+use native.Mathlib.Omega.{arith}
+use lib.ListN.{length}
+use Rattle.strict.proofs.Storing.{ends-few}
 use Rattle.strict.proofs.count_factors.Goals as goal
 
-pub walk-requires : goal.walk-requires
-walk-requires c = record { short = search rules; entries = λ e. absurd (true≢false (sym e)) }
+pub count-requires-clause-fits : goal.count-requires-clause-fits
+count-requires-clause-fits c = inl (omega (arith, ap length c.of.ensures, ends-few c.args.word.now, c.requires))

@@ -3,22 +3,22 @@ use Prim.Native.Nat.{◌<◌}
 use native.Mathlib.Omega.{arith}
 use lib.ListN.{get_or}
 use Rattle.words.specs.Separated.{separator}
-use Rattle.strict.proofs.Walking.{run_alone, run-resumes, run-scanned}
+use Rattle.strict.proofs.Walking.{run-repeats, run_alone, run-resumes, run-scanned}
 use Rattle.strict.proofs.run_at.Goals as goal
 
-pub returns-then-from-known : goal.returns-then-from-known
-returns-then-from-known c = c.requires.right c.if-from-known.true
-
 pub returns-then-word-from : goal.returns-then-word-from
-returns-then-word-from c = run_alone _ _ c.if-word-from.true
+returns-then-word-from c =
+    let t = run-repeats (run_alone c.args.word.now c.args.from c.if-word-from.true) c.requires.inside in
+    record { begins = t.0; right = t.1 }
 
 pub scan_on-s-requires : goal.scan_on-s-requires
 scan_on-s-requires c =
-    run-resumes c.args.word.now c.args.from _ c.requires.short c.requires.inside c.start-start.ensures
+    run-resumes c.args.word.now c.args.from _ c.requires.short c.requires.inside c.start.ensures
 
 pub returns : goal.returns
 returns c =
+    let w = c.args.word.now in
     let from = c.args.from in
-    let below : get_or c.args.word.now from 0 < separator
-    = omega (arith, (c.shared_slice_known-2-1.given from).fits, c.if-word-from.false) in
-    run-scanned c.args.word.now from _ below c.scan_on-s.ensures
+    let below : get_or w from 0 < separator = omega (arith, c.type_inv.word from, c.if-word-from.false) in
+    let t = run-repeats (run-scanned w from _ below c.scan_on-s.ensures) c.requires.inside in
+    record { begins = t.0; right = t.1 }
