@@ -121,15 +121,14 @@ module _ (i : Items) {at : ℕ} (e : i.next ≡ Some at) where
 
 -- ---- what a caller learns
 
-module _ {s u : ℕ} {i j : Items} where
-  pub left-next : {us : List ℕ} {x : ℕ} → Left s u i.text.now i.next us → ItemGiven i (Some x) j
-      → (vs : List ℕ) × ((us ≡ x ∷ vs) × Left u s i.text.now j.next vs)
-  left-next {us = []} l g = let z = g.none l in absurd (cc)
-  left-next {us = v ∷ vs} l g = let z = g.some l in let e = z.0 in (vs, (cc, z.1))
+module _ {s u : ℕ} {t : List ℕ} {i j : Items} (e : i.text.now ≡ t) where
+  pub left-next : {us : List ℕ} {x : ℕ} → Left s u t i.next us → ItemGiven i (Some x) j → (vs : List ℕ) × ((us ≡ x ∷ vs) × Left u s t j.next vs)
+  left-next {us = []} l g = let z = g.none (rw (← e) at l) in absurd (cc)
+  left-next {us = v ∷ vs} l g = let z = g.some (rw (← e) at l) in let same = z.0 in (vs, (cc, rw e at z.1))
 
-  pub left-none : {us : List ℕ} → Left s u i.text.now i.next us → ItemGiven i None j → us ≡ []
+  pub left-none : {us : List ℕ} → Left s u t i.next us → ItemGiven i None j → us ≡ []
   left-none {us = []} l g = refl
-  left-none {us = v ∷ vs} l g = let z = (g.some l).0 in absurd (cc)
+  left-none {us = v ∷ vs} l g = let z = (g.some (rw (← e) at l)).0 in absurd (cc)
 
 -- ---- one list at a place
 

@@ -18,18 +18,18 @@ even-paired (a ∷ b ∷ ps) e = pair (even-paired ps (omega arith))
 
 -- ---- what a caller learns
 
-module _ {i j : Pairs} where
-  pub pairs-next : {ps : List ℕ} {r : Pair} → PairsLeft i.items.text.now i.items.next ps → PairGiven i (Some r) j
-      → (qs : List ℕ) × ((ps ≡ r.end ∷ r.count ∷ qs) × PairsLeft i.items.text.now j.items.next qs)
-  pairs-next {r = r} f g = go f.paired f.left
+module _ {t : List ℕ} {i j : Pairs} (e : i.items.text.now ≡ t) where
+  pub pairs-next : {ps : List ℕ} {r : Pair} → PairsLeft t i.items.next ps → PairGiven i (Some r) j
+      → (qs : List ℕ) × ((ps ≡ r.end ∷ r.count ∷ qs) × PairsLeft t j.items.next qs)
+  pairs-next {r = r} f g = rw e at (go f.paired (rw (← e) at f.left))
     where
       go : {us : List ℕ} → Paired us → Left 58 44 i.items.text.now i.items.next us
           → (qs : List ℕ) × ((us ≡ r.end ∷ r.count ∷ qs) × PairsLeft i.items.text.now j.items.next qs)
       go Paired.none l = let z = g.none l in absurd (cc)
       go (pair {e = e} {c = c} {ps = qs} p) l = let z = g.some l in let same = z.0 in (qs, (cc, record { paired = p; left = z.1 }))
 
-  pub pairs-none : {ps : List ℕ} → PairsLeft i.items.text.now i.items.next ps → PairGiven i None j → ps ≡ []
-  pairs-none f g = go f.paired f.left
+  pub pairs-none : {ps : List ℕ} → PairsLeft t i.items.next ps → PairGiven i None j → ps ≡ []
+  pairs-none f g = go f.paired (rw (← e) at f.left)
     where
       go : {us : List ℕ} → Paired us → Left 58 44 i.items.text.now i.items.next us → us ≡ []
       go Paired.none l = refl
