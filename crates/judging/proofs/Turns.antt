@@ -66,9 +66,10 @@ module _ {w : List ℕ} {i j k : ℕ} (g : Turn w i j k) where
           let n = part-size w i j (omega (arith, g.some)) (omega (arith, g.after, g.inside)) in
           let m = part-size w j k g.after g.inside in
           record {
+            after = omega (arith, g.some);
             falling = record { short = omega (arith, n, g.short, g.after, g.inside); scanned = r.scanned; whole = whole };
             inside = omega (arith, m, g.short, g.after, g.inside);
           }
 
-      pub turn-pair : (q : ℕ) → j < k → q ≡ judged_pair (part i j w) (part j k w) j → q ≡ judged_turn w i j k
-      turn-pair q h f = (rw (part-is i j w, part-is j k w) at f) ∙ sym (at-letter w i j k e ∙ rw (falls, lt-leb k j h))
+      pub turn-pair : j < k → judged_turn w i j k ≡ judged_pair (part i j w) (part j k w) j
+      turn-pair h = rw (part-is i j w, part-is j k w) (at-letter w i j k e ∙ rw (falls, lt-leb k j h))

@@ -8,7 +8,7 @@ ghost use Rattle.std.specs.Prelude.{◌≡◌, length};
 ghost use Rattle.words.specs.Factorizations.{cfl_in};
 ghost use Rattle.theory.specs.Judging.LastFactor.{last_word};
 ghost use Rattle.theory.specs.Judging.Judge.{judged_pair, judged_turn};
-ghost use Rattle.judging.specs.Judging.{Bordered, BorderScanned, ScannedWhole, Neighbours, Turn};
+ghost use Rattle.judging.specs.Judging.{Bordered, BorderScanned, ScannedWhole, Neighbours, Turn, Told};
 
 use scan::Scan;
 
@@ -43,56 +43,56 @@ fn last_factor(word: &[u8], whole: Scan) -> usize
     s.length
 }
 
-// An inverse Lyndon part, of which `whole` is the scan, and the next part, which begins at `end`: 0, or how many letters
-// of the record tell.
-fn judge_pair(part: &[u8], next: &[u8], end: usize, whole: Scan) -> usize
+// An inverse Lyndon part, of which `whole` is the scan, and the next part, which begins at `end`: how many letters of
+// the record tell a fault, if there is one.
+fn judge_pair(part: &[u8], next: &[u8], end: usize, whole: Scan) -> Option<usize>
     requires { Neighbours part.now next.now end whole }
-    ensures { result ≡ judged_pair part.now next.now end }
+    ensures { Told (judged_pair part.now next.now end) result }
 {
     let common = common::common_length(part, next);
     if part.len() <= common {
-        return end + common;
+        return Some(end + common);
     }
     if next.len() <= common {
-        return end + common;
+        return Some(end + common);
     }
     if next[common] <= part[common] {
-        return end + common + 1;
+        return Some(end + common + 1);
     }
     if common == 0 {
-        return 0; // no border begins the next part: the usual case, without a look for one
+        return None; // no border begins the next part: the usual case, without a look for one
     }
     let last = last_factor(part, whole);
     if part.len() <= last {
-        return 0;
+        return None;
     }
     if last <= common {
-        return end + common + 1;
+        return Some(end + common + 1);
     }
-    0
+    None
 }
 
 /// The part of the record from `first` to `end`, and it beside the next one, which ends at `next`; `next` is `end` where
-/// no part follows. 0, or how many letters of the record tell that no list with these ends is its own.
-pub fn judge_turn(word: &[u8], first: usize, end: usize, next: usize) -> usize
+/// no part follows. How many letters of the record tell that no list with these ends is its own, if they do.
+pub fn judge_turn(word: &[u8], first: usize, end: usize, next: usize) -> Option<usize>
     requires { Turn word.now first end next }
-    ensures { result ≡ judged_turn word.now first end next }
+    ensures { Told (judged_turn word.now first end next) result }
 {
     if word[first] == words::SEPARATOR {
         if end <= first + 1 {
-            return 0;
+            return None;
         }
-        return first + 1;
+        return Some(first + 1);
     }
     let part = &word[first..end];
     let start = Scan::start();
     let s = scan::scan_on(part, start);
     let read = s.length;
     if read < part.len() {
-        return first + read + 1;
+        return Some(first + read + 1);
     }
     if next <= end {
-        return 0;
+        return None;
     }
     judge_pair(part, &word[end..next], end, s)
 }

@@ -1,7 +1,7 @@
 //! The list program's work between its input and its outputs.
 #![tactic(auto)]
 
-ghost use Rattle.std.specs.Prelude.{length, OnOk, IsTrue};
+ghost use Rattle.std.specs.Prelude.{length, OnOk, IsSome};
 ghost use Rattle.lister.specs.Reading.{Within, ReadOnce, ReadFull, ReadAll, ReadRest};
 ghost use Rattle.lister.specs.Listing.{Lists};
 
@@ -9,97 +9,76 @@ use checks::MOST;
 use std::io;
 use std::io::{ErrorKind, Read, Write};
 
-// A proved loop has to end, and nothing says that an input does, or that signals do; so such a loop counts down from a
-// number that no run uses up.
+// A proved loop has to end, and nothing says that an input does, or that signals do; so such a loop has a number of turns
+// that no run uses up.
 const TURNS: u64 = u64::MAX;
 
-/// What reading came to: so many bytes, or a read that failed.
-#[derive(Clone, Copy)]
-pub enum Got {
-    Bytes(usize),
-    Failed,
-}
-
-// Reads once into `buffer`: 0 bytes at the input's end. A read that a signal interrupts before a byte has come is made
-// again.
-fn read_some<R: Read>(input: &mut R, buffer: &mut [u8]) -> Got
+// Reads once into `buffer`: how many bytes came, 0 at the input's end, or nothing where the read failed. A read that a
+// signal interrupts before a byte has come is made again.
+fn read_some<R: Read>(input: &mut R, buffer: &mut [u8]) -> Option<usize>
     ensures within { Within result (length buffer.old) }
     ensures read { ReadOnce (R.remaining input.old) (R.remaining input.new) result buffer.new }
 {
-    let mut turns = TURNS;
-    while turns > 0 {
+    for _ in 0..TURNS {
         match input.read(buffer) {
-            Ok(count) => return Got::Bytes(count),
+            Ok(count) => return Some(count),
             Err(error) => {
                 if error.kind() != ErrorKind::Interrupted {
-                    return Got::Failed;
+                    return None;
                 }
             }
         }
-        turns -= 1;
     }
-    Got::Failed
+    None
 }
 
 // Reads until `word` is full or the input ends.
-fn read_word<R: Read>(input: &mut R, word: &mut [u8]) -> Got
+fn read_word<R: Read>(input: &mut R, word: &mut [u8]) -> Option<usize>
     ensures within { Within result (length word.old) }
     ensures read { ReadFull (R.remaining input.old) (R.remaining input.new) result word.new }
 {
     let mut done: usize = 0;
     while done < word.len() {
-        let got = read_some(input, &mut word[done..]);
-        let Got::Bytes(more) = got else {
-            return Got::Failed;
-        };
+        let more = read_some(input, &mut word[done..])?;
         if more == 0 {
-            return Got::Bytes(done);
+            return Some(done);
         }
         done += more;
     }
-    Got::Bytes(done)
+    Some(done)
 }
 
 // Reads once, and keeps nothing.
-fn skip_some<R: Read>(input: &mut R) -> Got
+fn skip_some<R: Read>(input: &mut R) -> Option<usize>
     ensures { ReadRest (R.remaining input.old) (R.remaining input.new) result }
 {
     let mut buffer = [0u8; 65536];
     read_some(input, &mut buffer)
 }
 
-// Reads what is left of the input: whether its end was reached.
-fn skip_rest<R: Read>(input: &mut R) -> bool
-    ensures { IsTrue result → ReadRest (R.remaining input.old) (R.remaining input.new) (Got.Bytes 0) }
+// Reads what is left of the input, to its end.
+fn skip_rest<R: Read>(input: &mut R) -> Option<()>
+    ensures { IsSome result → ReadRest (R.remaining input.old) (R.remaining input.new) (Some 0) }
 {
-    let mut turns = TURNS;
-    while turns > 0 {
-        let got = skip_some(input);
-        let Got::Bytes(more) = got else {
-            return false;
-        };
-        if more == 0 {
-            return true;
+    for _ in 0..TURNS {
+        if skip_some(input)? == 0 {
+            return Some(());
         }
-        turns -= 1;
     }
-    false
+    None
 }
 
 // Reads `input` to its end. One byte more than a record may have tells that the record is too long; the bytes after it
 // are read too, and change nothing.
-fn read_record<R: Read>(input: &mut R, word: &mut [u8]) -> Got
+fn read_record<R: Read>(input: &mut R, word: &mut [u8]) -> Option<usize>
     ensures within { Within result (length word.old) }
     ensures read { ReadAll (R.remaining input.old) (R.remaining input.new) result word.new }
 {
-    let got = read_word(input, word);
-    let Got::Bytes(length) = got else {
-        return got;
-    };
-    if MOST < length && !skip_rest(input) {
-        return Got::Failed;
+    let length = read_word(input, word)?;
+    if MOST < length {
+        skip_rest(input)?;
     }
-    got
+    Some(length)
 }
 
 /// Reads `input` to its end and writes the listing of its bytes to `output`. After a read that failed it writes one
@@ -113,8 +92,7 @@ pub fn list<R: Read, W: Write, E: Write>(
         (W.contents output.old) (W.contents output.new) (E.contents errors.old) (E.contents errors.new)) }
 {
     let mut word = [0u8; MOST + 1];
-    let got = read_record(input, &mut word);
-    let Got::Bytes(length) = got else {
+    let Some(length) = read_record(input, &mut word) else {
         return errors.write_all(b"list: the record could not be read\n");
     };
     let mut work = [0u16; listing::WORK];

@@ -1,5 +1,5 @@
 -- What the functions that hold a listing's lists against the record ask and decide. No call's promise cites this file.
-use Rattle.std.specs.Prelude.{◌≡◌, Bool, List, ℕ, ◌<◌, length}
+use Rattle.std.specs.Prelude.{◌≡◌, Bool, Option, List, ℕ, ◌<◌, length}
 use Rattle.std.proofs.Math.Seq.{slice}
 use Rattle.words.specs.Separated.{separated_cfl_in_ends}
 use Rattle.words.specs.Pairs.{separated_pairs}
@@ -12,9 +12,9 @@ abbrev pub PartFits : List ℕ → ℕ → ℕ → ℕ → ℕ → Type 0
 PartFits w first end next count = (judged_turn w first end next ≡ 0) × (count ≡ length (separated_cfl_in_ends (slice first end w)))
 
 -- whichever pairs stand in the text from a place on: the answer is whether they are the record's own
-abbrev pub PairsDecided : List ℕ → List ℕ → ℕ → Bool → Type 0
+abbrev pub PairsDecided : List ℕ → List ℕ → Option ℕ → Bool → Type 0
 PairsDecided w t at r = (ps : List ℕ) → 0 < length ps → PairsLeft t at ps → Decides (ps ≡ separated_pairs w) r
 
 -- the strict ends alike; commas (44) stand between them
-abbrev pub StrictDecided : List ℕ → List ℕ → ℕ → Bool → Type 0
+abbrev pub StrictDecided : List ℕ → List ℕ → Option ℕ → Bool → Type 0
 StrictDecided w t at r = (es : List ℕ) → Left 44 44 t at es → Decides (es ≡ separated_cfl_in_ends w) r

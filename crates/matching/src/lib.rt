@@ -8,6 +8,7 @@ ghost use Rattle.theory.specs.Orders.Decisions.{Decides};
 ghost use Rattle.judging.specs.Judging.{Turn};
 ghost use Rattle.matching.specs.Matching.{PartFits, PairsDecided, StrictDecided};
 
+use parsing::{Items, Pairs};
 use strict::Run;
 
 // Whether a part stands up to the judge beside the next one, and has as many strict pieces as its pair says.
@@ -15,27 +16,28 @@ fn part_fits(word: &[u8], first: usize, end: usize, next: usize, count: u16) -> 
     requires { Turn word.now first end next }
     ensures { Decides (PartFits word.now first end next count) result }
 {
-    if judging::judge_turn(word, first, end, next) != 0 {
+    if judging::judge_turn(word, first, end, next).is_some() {
         return false;
     }
-    pairs::count_inside(&word[first..end]) == count as usize
+    pairs::count_inside(&word[first..end]) == usize::from(count)
 }
 
-/// Whether the pairs that stand in the text from `at` on are the record's own.
-pub fn pairs_are(word: &[u8], text: &[u8], at: usize) -> bool
+/// Whether the pairs that stand in a text are the record's own.
+pub fn pairs_are(word: &[u8], mut pairs: Pairs) -> bool
     requires { length word.now ≤ most_letters }
-    ensures { PairsDecided word.now text.now at result }
+    ensures { PairsDecided word.now pairs.entry.items.text.now pairs.entry.items.next result }
 {
-    let mut first: usize = 0;
-    let mut pair = parsing::read_pair(text, at);
+    let Some(mut pair) = pairs.next() else {
+        return false;
+    };
     if pair.end == 0 {
         return false;
     }
     if word.len() < pair.end {
         return false;
     }
-    while pair.next != 0 {
-        let next = parsing::read_pair(text, pair.next);
+    let mut first: usize = 0;
+    for next in pairs {
         if next.end <= pair.end {
             return false;
         }
@@ -54,29 +56,25 @@ pub fn pairs_are(word: &[u8], text: &[u8], at: usize) -> bool
     part_fits(word, first, pair.end, pair.end, pair.count)
 }
 
-/// Whether the strict ends that stand in the text from `at` on are the record's own: each beside the end of the next
-/// factor of a walk.
-pub fn strict_are(word: &[u8], text: &[u8], at: usize) -> bool
+/// Whether the strict ends that stand in a text are the record's own: each beside the end of the next factor of a walk.
+pub fn strict_are(word: &[u8], ends: Items) -> bool
     requires { length word.now ≤ most_letters }
-    ensures { StrictDecided word.now text.now at result }
+    ensures { StrictDecided word.now ends.entry.text.now ends.entry.next result }
 {
     let mut run = Run {
         length: 0,
         until: 0,
     };
     let mut from: usize = 0;
-    let mut place = at;
-    while place != 0 {
+    for end in ends {
         if word.len() <= from {
             return false;
         }
         run = strict::run_at(word, from, run);
         from += run.length;
-        let item = parsing::read_item(text, place);
-        if item.value as usize != from {
+        if usize::from(end) != from {
             return false;
         }
-        place = item.next;
     }
     from == word.len()
 }

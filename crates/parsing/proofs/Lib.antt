@@ -1,4 +1,4 @@
 pub mod NumberLoop
 pub mod ListLoop
-pub mod Items
-pub mod PairItems
+pub mod ItemLaws
+pub mod PairLaws

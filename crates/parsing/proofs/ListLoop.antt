@@ -11,7 +11,8 @@ use lib.Seq.{drop-cons}
 use Rattle.text.specs.Reading.{Read, nothing, found, follow, number, each_within, numbers_by}
 use Rattle.text.proofs.ReaderKinds.{follow-here}
 use Rattle.text.proofs.ListReaders.{NoByte, each-end, each_more, list-is}
-use Rattle.parsing.specs.Parsing.{ListRead}
+use Rattle.parsing.specs.Parsing.{NumberAt, ListAt}
+use Rattle.parsing.specs.declared.Number.{Number}
 
 -- count numbers are read, and what is left, before it one byte and then the other, says the rest
 pub record Listing (s u : ℕ) (t : List ℕ) (at count end before next : ℕ) : Type 0 where
@@ -25,19 +26,19 @@ pub record Listing (s u : ℕ) (t : List ℕ) (at count end before next : ℕ) :
   pub left : numbers_by s u (drop at t) ≡ follow (each_within fuel before next (drop end t)) (λ vs z. found (values ++ vs) z)
 
 module _ (s u : ℕ) (t : List ℕ) (at : ℕ) where
-  pub list-none : number (drop at t) ≡ nothing → ListRead s u t at (record { count = 0; end = 0 })
-  list-none e = ListRead.other (list-is s u (drop at t) ∙ rw e) refl
+  pub list-none : number (drop at t) ≡ nothing → numbers_by s u (drop at t) ≡ nothing
+  list-none e = list-is s u (drop at t) ∙ rw e
 
-  pub list-begin : (n end : ℕ) → number (drop at t) ≡ found n (drop end t) → at < end → end ≤ length t → Listing s u t at 1 end s u
-  list-begin n end e l h = record {
-    after = l;
-    inside = h;
-    few = omega arith;
-    values = n ∷ [];
+  pub list-begin : {n : Number} → NumberAt t at n → Listing s u t at 1 n.end s u
+  list-begin {n} r = record {
+    after = r.after;
+    inside = r.inside;
+    few = omega (arith, r.after);
+    values = n.value ∷ [];
     size = refl;
-    fuel = suc (length (drop end t));
-    enough = rw (length-drop end t) (le_refl _);
-    left = list-is s u (drop at t) ∙ follow-here (λ n y. follow (each_within (suc (length y)) s u y) (λ vs z. found (n ∷ vs) z)) e;
+    fuel = suc (length (drop n.end t));
+    enough = rw (length-drop n.end t) (le_refl _);
+    left = list-is s u (drop at t) ∙ follow-here (λ n y. follow (each_within (suc (length y)) s u y) (λ vs z. found (n ∷ vs) z)) r.is;
   }
 
 module _ {s u : ℕ} {t : List ℕ} {at count end before next : ℕ} (g : Listing s u t at count end before next) where
@@ -48,19 +49,23 @@ module _ {s u : ℕ} {t : List ℕ} {at count end before next : ℕ} (g : Listin
       go zero l = absurd (omega arith)
       go (suc k) l = (k, refl)
 
-  stop : NoByte before (drop end t) → ListRead s u t at (record { count = count; end = end })
+  stop : NoByte before (drop end t) → ListAt s u t at (record { count = count; end = end })
   stop c =
       let at-end : each_within g.fuel before next (drop end t) ≡ found [] (drop end t)
       = ap (λ (f : ℕ). each_within f before next (drop end t)) positive.1 ∙ each-end before next positive.0 (drop end t) c in
-      ListRead.here g.values
-      (g.left ∙ follow-here (λ vs z. found (g.values ++ vs) z) at-end ∙ ap (λ (vs : List ℕ). found vs (drop end t)) (append-nil g.values))
-      g.size g.after g.inside
+      record {
+        values = g.values;
+        is = g.left ∙ follow-here (λ vs z. found (g.values ++ vs) z) at-end ∙ ap (λ (vs : List ℕ). found vs (drop end t)) (append-nil g.values);
+        count = g.size;
+        after = g.after;
+        inside = g.inside;
+      }
 
-  pub list_done : length t ≤ end → ListRead s u t at (record { count = count; end = end })
+  pub list_done : length t ≤ end → ListAt s u t at (record { count = count; end = end })
   list_done l = stop (rw (drop_of_length-le t {i = end} l) tt)
 
   module _ (l : end < length t) where
-    pub list-stop : ¬ (get_or t end 0 ≡ before) → ListRead s u t at (record { count = count; end = end })
+    pub list-stop : ¬ (get_or t end 0 ≡ before) → ListAt s u t at (record { count = count; end = end })
     list-stop c = stop (rw (drop-cons t end 0 l) c)
 
     module _ (c : get_or t end 0 ≡ before) where
@@ -77,23 +82,23 @@ module _ {s u : ℕ} {t : List ℕ} {at count end before next : ℕ} (g : Listin
           ∙ each_more before next positive.0 (drop (suc end) t)
           ∙ ap (λ (i : ℕ). follow (number (drop i t)) on) (sym (add-one end)))
 
-      pub list-broken : number (drop (end + 1) t) ≡ nothing → ListRead s u t at (record { count = 0; end = 0 })
-      list-broken e = ListRead.other (rw e at step) refl
+      pub list-broken : number (drop (end + 1) t) ≡ nothing → numbers_by s u (drop at t) ≡ nothing
+      list-broken e = rw e at step
 
-      pub list_on : (n end' : ℕ) → number (drop (end + 1) t) ≡ found n (drop end' t) → end + 1 < end' → end' ≤ length t
-          → Listing s u t at (count + 1) end' next before
-      list_on n end' e h k = record {
-        after = omega (arith, g.after);
-        inside = k;
-        few = omega (arith, g.few);
-        values = g.values ++ n ∷ [];
+      pub list_on : {n : Number} → NumberAt t (end + 1) n → Listing s u t at (count + 1) n.end next before
+      list_on {n} r = record {
+        after = omega (arith, g.after, r.after);
+        inside = r.inside;
+        few = omega (arith, g.few, r.after);
+        values = g.values ++ n.value ∷ [];
         size = rw length-append (omega (arith, g.size));
         fuel = positive.0;
-        enough = omega (arith, g.enough, positive.1);
-        left = (rw e at step) ∙ more (each_within positive.0 next before (drop end' t));
+        enough = omega (arith, g.enough, positive.1, r.after, r.inside);
+        left = (rw r.is at step) ∙ more (each_within positive.0 next before (drop n.end t));
       }
         where
           more : (q : Read (List ℕ))
-              → follow (follow q (λ vs z. found (n ∷ vs) z)) (λ vs z. found (g.values ++ vs) z) ≡ follow q (λ vs z. found ((g.values ++ n ∷ []) ++ vs) z)
+              → follow (follow q (λ vs z. found (n.value ∷ vs) z)) (λ vs z. found (g.values ++ vs) z)
+              ≡ follow q (λ vs z. found ((g.values ++ n.value ∷ []) ++ vs) z)
           more nothing = refl
-          more (found vs z) = ap (λ (us : List ℕ). found us z) (sym (append_assoc g.values (n ∷ []) vs))
+          more (found vs z) = ap (λ (us : List ℕ). found us z) (sym (append_assoc g.values (n.value ∷ []) vs))

@@ -16,7 +16,8 @@ use Rattle.summary.specs.declared.Summary.{Summary}
 use Rattle.summary.specs.Summary.{summary_lines, lengths_from, bit_length_of, count_of, bands_of, empty_summary, summary_of, Summarized}
 use Rattle.summary.proofs.EndsAdmitted.{EndsAccepted, all-admitted}
 use Rattle.summary.proofs.BitLengths.{bit-length-most, bit-length-some}
-use Rattle.summary.proofs.SummaryLaws.{bands_from, counts_from, count-here, count-other, bands-are-counts}
+use Rattle.summary.specs.Tallies.{bands_from}
+use Rattle.summary.proofs.SummaryLaws.{counts_from, count-here, count-other, bands-are-counts}
 
 counts-none : (b k : ℕ) → sum ◌+◌ 0 (counts_from b k []) ≡ 0
 unfolding sum count_of

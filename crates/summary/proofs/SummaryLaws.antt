@@ -2,7 +2,7 @@
 use mathlib.Core.Path.{◌≡◌, refl, ap, ◌∙◌}
 use mathlib.Core.Bool.{Bool, true, false, ◌&&◌}
 use mathlib.Core.Logic.{◌⊎◌, inl, inr}
-use mathlib.Core.List.{List, [], ◌∷◌, map}
+use mathlib.Core.List.{List, [], ◌∷◌}
 use Prim.Native.Nat.{ℕ, zero, suc, ◌+◌, ◌-◌, ◌≤◌, ◌<◌}
 use native.Mathlib.Omega.{arith}
 use native.Mathlib.Decide.{ℕ_discrete}
@@ -12,6 +12,7 @@ use lib.ListN.{length, get_or}
 use borrow.Author.Tests.{eq-eqb, ne_eqb}
 use Rattle.theory.specs.Orders.Decisions.{Decides, holds, fails, eqb-test, decides_and, true-decides, false-decides}
 use Rattle.summary.specs.Summary.{lengths_from, greatest, start_of, bit_length_of, count_of, bands_of}
+use Rattle.summary.specs.Tallies.{bands_from}
 
 -- ---- where the latest part of length n begins
 
@@ -74,10 +75,6 @@ count-greatest n (m ∷ ns) e h = go (ℕ_discrete m n) (λ z. count-greatest n 
     go (no z) ih = omega (arith, count-other n m ns z, ih (omega arith))
 
 -- ---- the bands
-
--- the bands of the parts that end at es, the first of which begins at a
-abbrev pub bands_from : ℕ → List ℕ → List ℕ
-bands_from a es = map bit_length_of (lengths_from a es)
 
 pub count_most : (k a : ℕ) (es : List ℕ) → count_of k (bands_from a es) ≤ length es
 unfolding lengths_from count_of

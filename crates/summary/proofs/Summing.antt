@@ -1,40 +1,28 @@
--- The loop of sum_up over plain lists: what it has of the parts before a, taken together with the parts that follow, is the definition's value
--- for the whole list. LongestSoFar: the greatest length and where the latest part of it begins. Banded: the thirteen counts. Each has a law for the
--- start, for one more part, of length e - a, and for the end. SummedUpTo: both, for the ends up to i.
-use mathlib.Core.Path.{◌≡◌, refl, sym, ◌∙◌}
+-- The tally of parts over plain lists: what it has of the parts before a, taken together with the parts that follow, is the definition's value for the
+-- whole list (specs/Tallies). LongestSoFar, Banded and SummedUpTo each have a law for the start, for one more part, of length e - a, and for the end;
+-- at the end of this file they are those of the tally itself.
+use mathlib.Core.Path.{◌≡◌, ap, sym, ◌∙◌}
 use mathlib.Core.Logic.{◌⊎◌, inl, inr}
 use mathlib.Core.List.{List, [], ◌∷◌}
 use Prim.Native.Nat.{ℕ, suc, ◌+◌, ◌-◌, ◌≤◌, ◌<◌, max}
 use native.Mathlib.Decide.{ℕ_discrete}
 use native.Mathlib.Omega.{arith}
 use native.Mathlib.Numerals.{add-one}
-use lib.ListN.{length, drop, get_or, set, replicate, length-set, drop_of_length-le, get_or-replicate}
+use lib.ListN.{length, drop, get_or, set, length-set, drop_of_length-le}
 use lib.Seq.{drop-cons, get_or-set_same, get_or-set_other, ext_get_or}
 use Rattle.summary.specs.Summary.{lengths_from, greatest, start_of, bit_length_of, count_of, bands_of, summary_of, Summable}
+use Rattle.summary.specs.Tallies.{longest_of, LongestSoFar, bands_from, Banded, SummedUpTo, Tallied, NextEnd}
+use Rattle.summary.specs.declared.Summary.{Summary}
+use Rattle.summary.specs.declared.Tally.{Tally}
+use Rattle.summary.proofs.BitLengths.{bit-length-some, bit-length-most}
 use Rattle.summary.proofs.SummaryLaws.{start-here, start-later, count-here, count-other, count-above, count-greatest, count_most}
-use Rattle.summary.proofs.SummaryLaws.{bands_from, bands-length, bands-at}
+use Rattle.summary.proofs.SummaryLaws.{bands-length, bands-at}
 
 -- ---- the longest part
 
--- the whole list's greatest length
-abbrev longest_of : List ℕ → ℕ
-longest_of es = greatest (lengths_from 0 es)
-
--- the parts that follow begin at a and end at rs
-pub record LongestSoFar (es : List ℕ) (longest from a : ℕ) (rs : List ℕ) : Type 0 where
-  pub most : max longest (greatest (lengths_from a rs)) ≡ longest_of es
-  -- before the first part
-  pub none : longest ≡ 0 → from ≡ 0
-  -- all later parts are shorter, or the latest of the longest is among them
-  pub settled : greatest (lengths_from a rs) < longest → from ≡ start_of (longest_of es) 0 es
-  pub ahead : longest ≤ greatest (lengths_from a rs) → start_of (longest_of es) a rs ≡ start_of (longest_of es) 0 es
-
--- n is kept beside a part that is shorter than the longest before it, and is new beside any other
-abbrev pub Chosen : (size longest kept new n : ℕ) → Type 0
-Chosen size longest kept new n = ((size < longest) × (n ≡ kept)) ⊎ ((longest ≤ size) × (n ≡ new))
-
-longest-start : (es : List ℕ) → LongestSoFar es 0 0 0 es
-longest-start es = record { most = omega arith; none = λ z. refl; settled = λ h. absurd (omega arith); ahead = λ h. refl }
+-- m and f are kept beside a part that is shorter than the longest before it, and are those of any other
+abbrev pub Chosen : (size longest from last m f : ℕ) → Type 0
+Chosen size longest from last m f = ((size < longest) × (m ≡ longest) × (f ≡ from)) ⊎ ((longest ≤ size) × (m ≡ size) × (f ≡ last))
 
 module _ {es rs : List ℕ} {longest from a e : ℕ} (g : LongestSoFar es longest from a (e ∷ rs)) where
   most-next : max longest (max (e - a) (greatest (lengths_from e rs))) ≡ longest_of es
@@ -63,11 +51,9 @@ module _ {es rs : List ℕ} {longest from a e : ℕ} (g : LongestSoFar es longes
         sym (start-later (longest_of es) a e rs (λ z. omega (arith, z.1, later))) ∙ g.ahead (omega arith);
   }
 
-  longest-next : {m f : ℕ} → 0 < e - a → Chosen (e - a) longest from a f → Chosen (e - a) longest longest (e - a) m → LongestSoFar es m f e rs
-  longest-next p (inl x) (inl y) = rw (x.1, y.1) (longest-kept x.0)
-  longest-next p (inl x) (inr y) = absurd (omega (arith, x.0, y.0))
-  longest-next p (inr x) (inl y) = absurd (omega (arith, x.0, y.0))
-  longest-next p (inr x) (inr y) = rw (x.1, y.1) (longest-replaced x.0 p)
+  longest-next : {m f : ℕ} → 0 < e - a → Chosen (e - a) longest from a m f → LongestSoFar es m f e rs
+  longest-next p (inl x) = rw (x.1, x.2) (longest-kept x.0)
+  longest-next p (inr x) = rw (x.1, x.2) (longest-replaced x.0 p)
 
 longest-end : {es : List ℕ} {longest from a : ℕ} → LongestSoFar es longest from a [] → from ≡ start_of (longest_of es) 0 es
 unfolding lengths_from greatest start_of
@@ -78,13 +64,6 @@ longest-end {es} {longest} {from} g = go (ℕ_discrete longest 0)
     go (no z) = g.settled (omega arith)
 
 -- ---- the counts
-
-pub record Banded (es bands : List ℕ) (a : ℕ) (rs : List ℕ) : Type 0 where
-  pub thirteen : length bands ≡ 13
-  pub counts : (k : ℕ) → k < 13 → get_or bands k 0 + count_of (suc k) (bands_from a rs) ≡ count_of (suc k) (bands_from 0 es)
-
-banded-start : (es : List ℕ) → Banded es (replicate 13 0) 0 es
-banded-start es = record { thirteen = refl; counts = λ k l. let z = get_or-replicate {A = ℕ} 13 k 0 0 l in omega arith }
 
 -- one more part in band k
 abbrev pub counted_at : ℕ → List ℕ → List ℕ
@@ -117,22 +96,13 @@ banded-end es bands a g =
 
 -- ---- the loop
 
-pub record SummedUpTo (es : List ℕ) (longest from : ℕ) (bands : List ℕ) (last i : ℕ) : Type 0 where
-  pub inside : i ≤ length es
-  pub last-is : last ≡ get_or (0 ∷ es) i 0
-  pub longest-is : LongestSoFar es longest from last (drop i es)
-  pub bands-are : Banded es bands last (drop i es)
-
-pub summed-start : (es : List ℕ) → SummedUpTo es 0 0 (replicate 13 0) 0 0
-summed-start es = record { inside = omega arith; last-is = refl; longest-is = longest-start es; bands-are = banded-start es }
-
 module _ {es bands : List ℕ} {longest from last i : ℕ} (g : SummedUpTo es longest from bands last i) where
   -- another part can be counted
-  pub summed-room : (k : ℕ) → k < 13 → get_or bands k 0 ≤ length es
+  summed-room : (k : ℕ) → k < 13 → get_or bands k 0 ≤ length es
   summed-room k l = omega (arith, g.bands-are.counts k l, count_most (suc k) 0 es)
 
   module _ (l : i < length es) where
-    pub summed-above : Summable es → last < get_or es i 0
+    summed-above : Summable es → last < get_or es i 0
     summed-above s = rw g.last-is (s.rising i l)
 
     next-longest : LongestSoFar es longest from last (get_or es i 0 ∷ drop (suc i) es)
@@ -141,23 +111,22 @@ module _ {es bands : List ℕ} {longest from last i : ℕ} (g : SummedUpTo es lo
     next-bands : Banded es bands last (get_or es i 0 ∷ drop (suc i) es)
     next-bands = rw (drop-cons es i 0 l) at g.bands-are
 
-    summed-next : {m f digits : ℕ} → last < get_or es i 0 → Chosen (get_or es i 0 - last) longest from last f
-        → Chosen (get_or es i 0 - last) longest longest (get_or es i 0 - last) m → digits ≡ bit_length_of (get_or es i 0 - last) → 0 < digits
+    summed-next : {m f digits : ℕ} → last < get_or es i 0 → Chosen (get_or es i 0 - last) longest from last m f
+        → digits ≡ bit_length_of (get_or es i 0 - last) → 0 < digits
         → SummedUpTo es m f (counted_at (digits - 1) bands) (get_or es i 0) (i + 1)
-    summed-next {digits = digits} above x y b p = record {
+    summed-next {digits = digits} above x b p = record {
       inside = omega arith;
       last-is = rw (add-one i);
-      longest-is = rw (add-one i) (longest-next next-longest (omega arith) x y);
+      longest-is = rw (add-one i) (longest-next next-longest (omega arith) x);
       bands-are = rw (add-one i) (banded-next digits next-bands b p);
     }
 
     -- the same, with the end as it was read
-    pub summed-on : {end m f digits : ℕ} → end ≡ get_or es i 0 → last < end → Chosen (end - last) longest from last f
-        → Chosen (end - last) longest longest (end - last) m → digits ≡ bit_length_of (end - last) → 0 < digits
-        → SummedUpTo es m f (counted_at (digits - 1) bands) end (i + 1)
-    summed-on e above x y b p = rw e (summed-next (rw e at above) (rw e at x) (rw e at y) (rw e at b) p)
+    summed-on : {end m f digits : ℕ} → end ≡ get_or es i 0 → last < end → Chosen (end - last) longest from last m f
+        → digits ≡ bit_length_of (end - last) → 0 < digits → SummedUpTo es m f (counted_at (digits - 1) bands) end (i + 1)
+    summed-on e above x b p = rw e (summed-next (rw e at above) (rw e at x) (rw e at b) p)
 
-  pub summed-end : length es ≤ i → record { refusal = 0; count = i; longest = longest; from = from; bands = bands } ≡ summary_of es
+  summed-end : length es ≤ i → record { refusal = 0; count = i; longest = longest; from = from; bands = bands } ≡ summary_of es
   unfolding summary_of lengths_from greatest
   summed-end l =
       let none = drop_of_length-le es {i = i} l in
@@ -167,3 +136,44 @@ module _ {es bands : List ℕ} {longest from last i : ℕ} (g : SummedUpTo es lo
       let start = longest-end n in
       let all = banded-end es bands last (rw none at g.bands-are) in
       λ t. record { refusal = 0; count = count t; longest = most t; from = start t; bands = all t }
+
+-- ---- the tally
+
+-- the part's length is held against the longest
+pub record Weighed (t : Tally) (size : ℕ) (s : Tally) : Type 0 where
+  pub refusal : s.summary.refusal ≡ t.summary.refusal
+  pub count : s.summary.count ≡ t.summary.count
+  pub bands : s.summary.bands ≡ t.summary.bands
+  pub chosen : Chosen size t.summary.longest t.summary.from t.last s.summary.longest s.summary.from
+
+module _ {es : List ℕ} {t : Tally} {end : ℕ} (n : NextEnd es t end) where
+  pub tally-above : t.last < end
+  tally-above = rw n.is (summed-above n.tallied.summed n.some n.summable)
+
+  pub tally-band : {d : ℕ} → d ≡ bit_length_of (end - t.last) → (1 ≤ d) × (d ≤ 13)
+  tally-band b = rw b (bit-length-some _ (omega (arith, tally-above)), bit-length-most _ (omega (arith, n.summable.short t.summary.count, n.is)))
+
+  module _ {s : Tally} (w : Weighed t (end - t.last) s) where
+    pub tally-room : (k : ℕ) → k < 13 → get_or s.summary.bands k 0 < 65535
+    tally-room k l = rw w.bands (omega (arith, summed-room n.tallied.summed k l, n.summable.few))
+
+    pub tally-next : {d : ℕ} → d ≡ bit_length_of (end - t.last) → Tallied es (record {
+      summary = record {
+        refusal = s.summary.refusal;
+        count = s.summary.count + 1;
+        longest = s.summary.longest;
+        from = s.summary.from;
+        bands = counted_at (d - 1) s.summary.bands;
+      };
+      last = end;
+    })
+    tally-next b = record {
+      none = w.refusal ∙ n.tallied.none;
+      summed = rw (w.count, w.bands) (summed-on n.tallied.summed n.some n.is tally-above w.chosen b (tally-band b).0);
+    }
+
+pub tally-end : {es : List ℕ} {t : Tally} → Tallied es t → length es ≤ t.summary.count → t.summary ≡ summary_of es
+tally-end {t = t} g l =
+    let s = t.summary in
+    let refused : ℕ → Summary = λ r. record { refusal = r; count = s.count; longest = s.longest; from = s.from; bands = s.bands } in
+    ap refused g.none ∙ summed-end g.summed l

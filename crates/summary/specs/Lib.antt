@@ -1,3 +1,4 @@
 pub mod Summary
+pub mod Tallies
 pub mod SummaryStatements
 pub mod Examples

@@ -2,9 +2,10 @@
 //! accepts; it need not be a factorization.
 #![tactic(auto)]
 
-ghost use Rattle.std.specs.Prelude.{◌≡◌, []};
+ghost use Rattle.std.specs.Prelude.{◌≡◌, ℕ, ◌+◌, List, []};
 ghost use Rattle.words.specs.Pairs.{ends_of};
 ghost use Rattle.checks.specs.Lines.{record_lines, Accepted};
+ghost use Rattle.summary.specs.Tallies.{Tallied, NextEnd};
 ghost use Rattle.summary.specs.Summary.{bit_length_of, empty_summary, summary_of, Summarized, Summable};
 
 use checks::Checked;
@@ -48,35 +49,52 @@ impl Summary {
     }
 }
 
-// The summary of the parts that a paired list marks. A part takes the place of the longest before it unless it is
-// shorter.
+/// The summary of the parts that came so far, and where the last of them ends.
+#[derive(Drop)]
+pub struct Tally {
+    pub summary: Summary,
+    pub last: u16,
+}
+
+impl Tally {
+    /// No part yet.
+    pub fn new() -> Tally
+        ensures { (es : List ℕ) → Tallied es result }
+    {
+        Tally {
+            summary: Summary::empty(0),
+            last: 0,
+        }
+    }
+
+    /// One part more, up to `end`. It takes the place of the longest before it unless it is shorter.
+    pub fn add(&mut self, end: u16)
+        requires { (es : List ℕ) × NextEnd es self.old end }
+        ensures adds { (es : List ℕ) → NextEnd es self.old end → Tallied es self.new }
+        ensures counts { self.new.summary.count ≡ self.old.summary.count + 1 }
+    {
+        let size = end - self.last;
+        if self.summary.longest <= size {
+            self.summary.longest = size;
+            self.summary.from = self.last;
+        }
+        let band = bit_length(size) - 1;
+        self.summary.bands[band] += 1;
+        self.summary.count += 1;
+        self.last = end;
+    }
+}
+
+// The summary of the parts that a paired list marks.
 fn sum_up(pairs: &[u16]) -> Summary
     requires { Summable (ends_of pairs.now) }
     ensures { result ≡ summary_of (ends_of pairs.now) }
 {
-    let count = pairs::count(pairs);
-    let mut bands = [0u16; 13];
-    let mut longest: u16 = 0;
-    let mut from: u16 = 0;
-    let mut last: u16 = 0;
-    let mut i: usize = 0;
-    while i < count {
-        let end = pairs::factor_end(pairs, i);
-        let size = end - last;
-        from = if size < longest { from } else { last };
-        longest = if size < longest { longest } else { size };
-        let band = bit_length(size) - 1;
-        bands[band] += 1;
-        last = end;
-        i += 1;
+    let mut tally = Tally::new();
+    for i in 0..pairs::count(pairs) {
+        tally.add(pairs::factor_end(pairs, i));
     }
-    Summary {
-        refusal: 0,
-        count: i as u16,
-        longest,
-        from,
-        bands,
-    }
+    tally.summary
 }
 
 /// The summary for an accepted record: the call's own line, 7, and its work.

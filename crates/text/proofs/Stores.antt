@@ -1,12 +1,14 @@
 -- What is written one after the other stands one after the other (wrote_then), what is written from entry 0 on is the buffer's front
 -- (wrote-front), and a text that is written part by part is what is left of it, written after its other parts (Left).
 use mathlib.Core.Path.{◌≡◌, refl, ap, sym, ◌∙◌}
-use mathlib.Core.List.{List, [], ◌∷◌, ◌++◌}
-use Prim.Native.Nat.{ℕ, suc, ◌+◌, ◌≤◌}
+use mathlib.Core.List.{List, [], ◌∷◌, ◌++◌, append_assoc}
+use Prim.Native.Nat.{ℕ, suc, ◌+◌, ◌-◌, ◌≤◌}
 use native.Mathlib.Nat.{add-zero, add-suc, suc-add}
 use native.Mathlib.Numerals.{add-one}
 use native.Mathlib.Omega.{arith}
-use lib.ListN.{length, set, length-set, length-append}
+use borrow.Rule.Slice.PartMut.{put_mid}
+use lib.ListN.{length, take, drop, set, length-set, length-append}
+use Rattle.std.proofs.lemmas.List.{drop-drop}
 use lib.Seq.{sets, sets-eq, length-sets, set_comm}
 use Rattle.buffers.specs.Buffers.{written}
 use Rattle.text.specs.Writing.{WroteAt}
@@ -40,6 +42,13 @@ wrote_then {at} {vs} {us} {out} x y = record {
   place = rw (length-append vs us) (omega (arith, x.place, y.place));
   content = rw (sets-append vs out at us, ← x.content, ← x.place) y.content;
 }
+
+-- a text copied over a part of the buffer
+pub wrote-part : (at : ℕ) (vs out part : List ℕ) → part ≡ vs → at + length vs ≤ length out
+    → WroteAt at vs out (at + length vs) (put_mid at (at + length vs - at) out part)
+wrote-part at vs out part e h =
+    let z : at + length vs - at ≡ length vs = omega arith in
+    record { place = refl; content = rw (e, z, drop-drop (length vs) at out) (sym (sets-eq vs out at h ∙ append_assoc (take at out) vs (drop (at + length vs) out))) }
 
 -- what is written from entry 0 on, as the buffer whole
 pub wrote-front : {vs out : List ℕ} {r : ℕ} {out' : List ℕ}

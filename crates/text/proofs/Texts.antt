@@ -29,38 +29,34 @@ count-end number count rest g l = omega (arith, g.digits, ap length (decimal-sma
 
 -- ---- digits: those that are left, stored in the buffer as it is, make the number stored in the buffer as it was
 
-pub record Spelling (number : ℕ) (out₀ out : List ℕ) (at left rest : ℕ) : Type 0 where
-  pub few : left ≤ length (decimal number)
-  pub stores : sets out at (digits left rest) ≡ sets out₀ at (decimal number)
+pub record Spelling (number : ℕ) (out₀ out : List ℕ) (at place rest : ℕ) : Type 0 where
+  pub after : at ≤ place
+  pub stores : sets out at (digits (place - at) rest) ≡ sets out₀ at (decimal number)
   pub long : length out ≡ length out₀
 
-pub spell-start : (number : ℕ) (out : List ℕ) (at : ℕ) → Spelling number out out at (length (decimal number)) number
-spell-start number out at = record { few = omega arith; stores = rw (← decimal-digits number); long = refl }
+pub spell-start : (number : ℕ) (out : List ℕ) (at count : ℕ) → count ≡ length (decimal number) → Spelling number out out at (at + count) number
+spell-start number out at count e =
+    let z : at + count - at ≡ length (decimal number) = omega arith in
+    record { after = omega arith; stores = rw (z, ← decimal-digits number); long = refl }
 
-pub spell-step : (number : ℕ) (out₀ out : List ℕ) (at left rest : ℕ) → Spelling number out₀ out at left rest → 0 < left
-    → Spelling number out₀ (set out (at + (left - 1)) (48 + rest % 10)) at (left - 1) (rest / 10)
+pub spell-step : {number : ℕ} {out₀ out : List ℕ} {at place rest : ℕ} → Spelling number out₀ out at place rest → at < place
+    → Spelling number out₀ (set out (place - 1) (48 + rest % 10)) at (place - 1) (rest / 10)
 unfolding digits
-spell-step number out₀ out at left rest g l =
-    let z : left ≡ suc (left - 1) = omega arith in
-    let stored = rw (length_digits (left - 1) (rest / 10)) at (sets_last (digits (left - 1) (rest / 10)) out at (48 + rest % 10)) in
+spell-step {number} {out₀} {out} {at} {place} {rest} g l =
+    let left : ℕ = place - 1 - at in
+    let z : place - at ≡ suc left = omega arith in
+    let i : at + left ≡ place - 1 = omega arith in
+    let stored = rw (length_digits left (rest / 10), i) at (sets_last (digits left (rest / 10)) out at (48 + rest % 10)) in
     record {
-      few = omega (arith, g.few);
+      after = omega arith;
       stores = sym stored ∙ (rw z at g.stores);
-      long = length-set out (at + (left - 1)) (48 + rest % 10) ∙ g.long;
+      long = length-set out (place - 1) (48 + rest % 10) ∙ g.long;
     }
 
-pub spell-end : (number : ℕ) (out₀ out : List ℕ) (at left rest : ℕ) → Spelling number out₀ out at left rest → left ≤ 0
-    → WroteAt at (decimal number) out₀ (at + length (decimal number)) out
+pub spell-end : {number : ℕ} {out₀ out : List ℕ} {at place rest : ℕ} (end : ℕ) → Spelling number out₀ out at place rest → place ≤ at
+    → end ≡ at + length (decimal number) → WroteAt at (decimal number) out₀ end out
 unfolding digits
-spell-end number out₀ out at left rest g l = let z : left ≡ 0 = omega arith in record { place = refl; content = rw z at g.stores }
-
--- ---- bytes, one more
-
-pub copy_step : (bytes out₀ out : List ℕ) (at i : ℕ) → i < length bytes → Left at bytes out₀ (at + i) (drop i bytes) out
-    → Left at bytes out₀ (at + (i + 1)) (drop (i + 1) bytes) (set out (at + i) (get_or bytes i 0))
-copy_step bytes out₀ out at i l g =
-    let z : at + (i + 1) ≡ at + i + 1 = omega arith in
-    rw (z, add-one i) (left-byte (rw (drop-cons bytes i 0 l) at g))
+spell-end {at = at} {place = place} end g l e = let z : place - at ≡ 0 = omega arith in record { place = e; content = rw z at g.stores }
 
 -- ---- lists: none, or a first number and then the others with s and t before them in turn
 
@@ -69,14 +65,13 @@ unfolding list_by
 list-none s t [] out at l = wrote_none at out
 list-none s t (n ∷ ns) out at l = absurd (omega arith)
 
-pub list-first : (s t numbers : List ℕ) → 0 < length numbers → list_by s t numbers ≡ decimal (get_or numbers 0 0) ++ each_after s t (drop 1 numbers)
+pub list-first : {numbers : List ℕ} {n : ℕ} {ns : List ℕ} (s t : List ℕ) → numbers ≡ n ∷ ns → list_by s t numbers ≡ decimal n ++ each_after s t ns
 unfolding list_by
-list-first s t [] l = absurd (omega arith)
-list-first s t (n ∷ ns) l = refl
+list-first s t e = rw e
 
-pub first-length : (s t numbers : List ℕ) → 0 < length numbers
-    → length (list_by s t numbers) ≡ length (decimal (get_or numbers 0 0)) + length (each_after s t (drop 1 numbers))
-first-length s t numbers l = rw (list-first s t numbers l, length-append)
+pub first-length : {numbers : List ℕ} {n : ℕ} {ns : List ℕ} (s t : List ℕ) → numbers ≡ n ∷ ns
+    → length (list_by s t numbers) ≡ length (decimal n) + length (each_after s t ns)
+first-length s t e = rw (list-first s t e, length-append)
 
 module _ (s t : ℕ) (numbers : List ℕ) (i : ℕ) where
   pub each_at : i < length numbers

@@ -3,56 +3,29 @@
 
 ghost use Rattle.totals.specs.Totals.{Summed, SummedUp, ListDecided};
 
-use summary::Summary;
+use parsing::{Items, Pairs};
+use summary::{Summary, Tally};
 
-/// The summary of the parts that the pairs mark which stand in the text from `at` on.
-pub fn sum_pairs(text: &[u8], at: usize) -> Summary
-    requires { Summed text.now at }
-    ensures { SummedUp text.now at result }
+/// The summary of the parts that the pairs mark which stand in a text.
+pub fn sum_pairs(pairs: Pairs) -> Summary
+    requires { Summed pairs.items.text.now pairs.items.next }
+    ensures { SummedUp pairs.entry.items.text.now pairs.entry.items.next result }
 {
-    let mut bands = [0u16; 13];
-    let mut longest: u16 = 0;
-    let mut from: u16 = 0;
-    let mut last: u16 = 0;
-    let mut i: usize = 0;
-    let mut place = at;
-    while place != 0 {
-        let pair = parsing::read_pair(text, place);
-        let end = pair.end as u16;
-        let size = end - last;
-        from = if size < longest { from } else { last };
-        longest = if size < longest { longest } else { size };
-        let band = summary::bit_length(size) - 1;
-        bands[band] += 1;
-        last = end;
-        i += 1;
-        place = pair.next;
+    let mut tally = Tally::new();
+    for pair in pairs {
+        tally.add(pair.end as u16);
     }
-    Summary {
-        refusal: 0,
-        count: i as u16,
-        longest,
-        from,
-        bands,
-    }
+    tally.summary
 }
 
-/// Whether the numbers that stand in the text from `at` on are those given.
-pub fn list_is(text: &[u8], at: usize, numbers: &[u16]) -> bool
-    ensures { ListDecided text.now at numbers.now result }
+/// Whether the numbers that stand in a text are those given.
+pub fn list_is(mut items: Items, numbers: &[u16]) -> bool
+    ensures { ListDecided items.entry.text.now items.entry.next numbers.now result }
 {
-    let mut i: usize = 0;
-    let mut place = at;
-    while i < numbers.len() {
-        if place == 0 {
+    for number in numbers {
+        if items.next() != Some(*number) {
             return false;
         }
-        let item = parsing::read_item(text, place);
-        if item.value != numbers[i] {
-            return false;
-        }
-        place = item.next;
-        i += 1;
     }
-    place == 0
+    items.next().is_none()
 }

@@ -12,10 +12,10 @@ returns-in_default g c = on_ok_weaker _ (λ said. inr (record { kept = Keeps-ref
 
 pub returns : goal.returns
 returns g c =
-    let k = c.in-Bytes.length in
-    let word = c.read_record-got.new.word in
-    let read = c.in-Bytes.ensures.read in
-    let size : length (take k word) ≡ k = length-take-le k word (omega (arith, c.in-Bytes.ensures.within)) in
+    let k = c.in-Some.length in
+    let word = c.read_record.new.word in
+    let read = c.in-Some.ensures.read in
+    let size : length (take k word) ≡ k = length-take-le k word (omega (arith, c.in-Some.ensures.within)) in
     let none : length (take k word) ≤ 4096 → read.0.0 ≡ [] = λ short. read.0.2 (omega arith) in
     on_ok_weaker _ (λ w. inl (record {
       word = take k word ++ read.0.0;

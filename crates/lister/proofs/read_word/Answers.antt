@@ -5,4 +5,5 @@ use Rattle.lister.proofs.read_word.Goals as goal
 
 pub loop-done-preserved : goal.loop-done-preserved
 loop-done-preserved g c =
-    (omega (arith, c.in-Bytes.ensures.within), search rules, consumes-behind _ _ _ _ _ _ _ _ c.loop-done.invariant.0 (omega (arith, c.in-Bytes.ensures.within)) c.loop-done.invariant.2 c.in-Bytes.ensures.read.0)
+    let came = c.in_ok-more.ensures in
+    (omega (arith, came.within), search rules, consumes-behind _ _ _ _ _ _ _ _ c.loop-done.invariant.0 (omega (arith, came.within)) c.loop-done.invariant.2 came.read.0)

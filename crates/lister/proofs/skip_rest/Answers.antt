@@ -2,9 +2,10 @@
 use Rattle.std.proofs.KnownBytes.{Consumes-trans}
 use Rattle.lister.proofs.skip_rest.Goals as goal
 
-pub returns-then-more-eq0 : goal.returns-then-more-eq0
-returns-then-more-eq0 g c = λ yes.
-    ((_, Consumes-trans _ _ _ _ _ c.loop-turns.invariant.1 c.in-Bytes.ensures.0.1), λ none. c.in-Bytes.ensures.1 c.if-more-eq0.true)
+pub returns-then-branch-eq0 : goal.returns-then-branch-eq0
+returns-then-branch-eq0 g c = λ yes.
+    let rest = c.in_ok-skip_some.ensures in
+    ((_, Consumes-trans _ _ _ _ _ c.loop.invariant.1 rest.0.1), λ none. rest.1 c.if-branch-eq0.true)
 
-pub loop-turns-preserved : goal.loop-turns-preserved
-loop-turns-preserved g c = (_, Consumes-trans _ _ _ _ _ c.loop-turns.invariant.1 c.in-Bytes.ensures.0.1)
+pub loop-preserved : goal.loop-preserved
+loop-preserved g c = (_, Consumes-trans _ _ _ _ _ c.loop.invariant.1 c.in_ok-skip_some.ensures.0.1)

@@ -1,12 +1,14 @@
--- A byte below, above or among the digits.
-use Rattle.text.proofs.Readers.{digit-below, digit-above, digit-inside}
+-- A byte among the digits, or below or above them.
+use native.Mathlib.Omega.{arith}
+use Rattle.parsing.proofs.NumberLoop.{digit-outside}
+use Rattle.text.proofs.Readers.{digit-inside}
 use Rattle.parsing.proofs.digit_of.Goals as goal
 
-pub returns-then-byte-lt48 : goal.returns-then-byte-lt48
-returns-then-byte-lt48 c = digit-below _ c.if-byte-lt48.true
+pub returns-then-is_ascii_digit : goal.returns-then-is_ascii_digit
+returns-then-is_ascii_digit c =
+    let range = c.if-is_ascii_digit.ensures.cases in
+    let value = digit-inside c.args.byte (omega arith) (omega arith) in
+    (omega (arith, value), omega arith)
 
-pub returns-then-byte-gt57 : goal.returns-then-byte-gt57
-returns-then-byte-gt57 c = digit-above _ c.if-byte-lt48.false c.if-byte-gt57.true
-
-pub returns : goal.returns
-returns c = digit-inside _ c.if-byte-lt48.false c.if-byte-gt57.false
+pub returns-else-is_ascii_digit : goal.returns-else-is_ascii_digit
+returns-else-is_ascii_digit c = digit-outside c.args.byte c.if-is_ascii_digit.ensures.cases

@@ -5,7 +5,7 @@ use Prim.Native.Nat.{◌-◌}
 use Rattle.parsing.proofs.read_list.Given as goal
 
 abbrev pub invariant-loop-end : goal.invariant-loop-end
-invariant-loop-end l = Listing l.first l.second l.text l.at l.count l.end l.before l.next
+invariant-loop-end l = Listing l.fn.separators.first l.fn.separators.second l.text l.at l.count l.end l.between.first l.between.second
 
 abbrev pub decreases-loop-end : goal.decreases-loop-end
 decreases-loop-end l = length l.text - l.end
