@@ -3,43 +3,36 @@
 
 ghost use Rattle.std.specs.Prelude.{◌≡◌, [], ◌≤◌, length};
 ghost use Rattle.words.specs.Words.{most_letters};
-ghost use Rattle.checks.specs.Lines.{tried, record_lines, Accepted};
+ghost use Rattle.checks.specs.Lines.{tried, record_lines};
+ghost use Rattle.checks.specs.Answers.{outcome};
 ghost use Rattle.cfl.specs.CflIn.{cfl_in_lines, CflInDone};
 
-use checks::{Checked, Counted};
+use checks::{Record, Refusal};
 
 // Line 4. There are no more factors than letters, so they are counted only for a buffer that is shorter than the word.
-fn check_room(word: &[u8], entries: usize) -> Checked
+fn check_room(word: &[u8], entries: usize) -> Result<(), Refusal>
     requires { length word.now ≤ most_letters }
-    ensures { result ≡ tried (cfl_in_lines word.now entries) }
+    ensures { outcome result ≡ tried (cfl_in_lines word.now entries) }
 {
     if word.len() <= entries {
-        return Checked::Passed;
+        return Ok(());
     }
     checks::check_result(entries, strict::count_factors(word))
 }
 
 /// The strict cut of an accepted record: the call's own line, 4, and its work.
-pub fn cut(word: &[u8], ends: &mut [u16]) -> Counted
-    requires { Accepted word.now }
-    ensures { CflInDone [] word.now ends.old result ends.new }
+pub fn cut(record: Record, ends: &mut [u16]) -> Result<usize, Refusal>
+    ensures { CflInDone [] record.entry.letters.now ends.old result ends.new }
 {
-    let room = check_room(word, ends.len());
-    let Checked::Passed = room else {
-        return Counted::Refused(room.number());
-    };
-    let count = strict::walk(word, ends, true);
-    Counted::Count(count)
+    check_room(record.letters, ends.len())?;
+    Ok(strict::write_ends(record.letters, ends))
 }
 
 /// The strict cut: writes the ends of the factors from entry 0 on, and answers their number. Each separator is a
 /// factor, and each stretch between two is cut by itself. Refusals 1, 2, 4.
-pub fn cfl_in(word: &[u8], ends: &mut [u16]) -> Counted
+pub fn cfl_in(word: &[u8], ends: &mut [u16]) -> Result<usize, Refusal>
     ensures { CflInDone (record_lines word.now) word.now ends.old result ends.new }
 {
-    let recorded = checks::check_record(word);
-    let Checked::Passed = recorded else {
-        return Counted::Refused(recorded.number());
-    };
-    cut(word, ends)
+    let record = Record::admit(word)?;
+    cut(record, ends)
 }

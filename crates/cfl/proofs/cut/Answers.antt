@@ -1,20 +1,18 @@
 -- Line 4, then the walk that stores the ends.
-use mathlib.Core.Path.{refl}
-use Rattle.checks.proofs.LineLaws.{passed, filled-refused, filled-done}
+use mathlib.Core.Path.{sym}
+use Rattle.checks.proofs.LineLaws.{passed-up, filled-refused, filled-done}
 use Rattle.checks.proofs.RecordLaws.{enough}
 use Rattle.cfl.proofs.cut.Goals as goal
 
-pub check_room-room-requires : goal.check_room-room-requires
-check_room-room-requires c = c.requires.short
+pub check_room-requires : goal.check_room-requires
+check_room-requires c = c.args.record.accepted.short
 
-pub returns-in_default : goal.returns-in_default
-returns-in_default c = filled-refused _ _ _ c.check_room-room.ensures c.in_default.not-Passed c.number.ensures
+pub returns-in_err-check_room : goal.returns-in_err-check_room
+returns-in_err-check_room c = rw (passed-up _ c.from_residual.ensures.1) (filled-refused _ _ _ c.in_err-check_room.ensures)
 
-pub walk-count-requires : goal.walk-count-requires
-walk-count-requires c =
-    record { short = c.requires.short; entries = λ e. enough 4 _ _ (passed _ c.check_room-room.ensures c.in-Passed.is) }
+pub write_ends-requires-clause-room : goal.write_ends-requires-clause-room
+write_ends-requires-clause-room c = enough 4 _ _ (sym c.in_ok-check_room.ensures)
 
 pub returns : goal.returns
 returns c =
-    let walk = c.walk-count.ensures in
-    filled-done (passed _ c.check_room-room.ensures c.in-Passed.is) walk.count (walk.stored refl)
+    filled-done (sym c.in_ok-check_room.ensures) c.write_ends.ensures.count c.write_ends.ensures.stored
