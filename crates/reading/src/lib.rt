@@ -2,44 +2,28 @@
 //! accepts; it need not be a factorization.
 #![tactic(auto)]
 
-ghost use Rattle.std.specs.Prelude.{◌≡◌, []};
-ghost use Rattle.checks.specs.Lines.{tried, record_lines, Accepted};
-ghost use Rattle.reading.specs.Factor.{factor_lines, FactorAt};
+ghost use Rattle.std.specs.Prelude.{[]};
+ghost use Rattle.checks.specs.Lines.{record_lines};
+ghost use Rattle.reading.specs.Factor.{part_of, FactorAt};
+ghost use Rattle.checks.specs.Answers.{outcome, checked_number};
 
-use checks::Checked;
-
-/// Lines 7 and 8: the paired list, the part's number.
-pub fn admit_factor(word: &[u8], pairs: &[u16], number: usize) -> Checked
-    ensures { result ≡ tried (factor_lines word.now pairs.now number) }
-{
-    checks::check_pairs(pairs, word.len()).then(checks::check_number(number, pairs::count(pairs)))
-}
+use checks::{Record, Refusal};
 
 /// Part `number` of an accepted record: the call's own lines, 7 and 8, and its work.
-pub fn part_at<'a>(word: &'a [u8], pairs: &[u16], number: usize, refusal: &mut u8) -> &'a [u8]
-    requires { Accepted word.now }
-    ensures { FactorAt [] word.now pairs.now number result.now refusal.new }
+pub fn part_at<'a>(record: Record<'a>, pairs: &[u16], number: usize) -> Result<&'a [u8], Refusal>
+    ensures { FactorAt [] record.entry.letters.now pairs.now number (part_of result) (checked_number (outcome result)) }
 {
-    let admitted = admit_factor(word, pairs, number);
-    *refusal = admitted.number();
-    let Checked::Passed = admitted else {
-        return &word[0..0];
-    };
+    checks::check_part(pairs, record.letters.len(), number)?;
     let from = pairs::factor_from(pairs, number) as usize;
     let end = pairs::factor_end(pairs, number) as usize;
-    &word[from..end]
+    Ok(&record.letters[from..end])
 }
 
 /// Part `number`, counted from 0, of the record: the letters from the end before it to its own end in `pairs`, the
-/// first from place 0. The refusal's number, 1, 2, 7 or 8, goes to `refusal`, 0 for a result; the part beside a refusal
-/// is empty.
-pub fn factor_at<'a>(word: &'a [u8], pairs: &[u16], number: usize, refusal: &mut u8) -> &'a [u8]
-    ensures { FactorAt (record_lines word.now) word.now pairs.now number result.now refusal.new }
+/// first from place 0. Refusals 1, 2, 7, 8.
+pub fn factor_at<'a>(word: &'a [u8], pairs: &[u16], number: usize) -> Result<&'a [u8], Refusal>
+    ensures { FactorAt (record_lines word.now) word.now pairs.now number (part_of result) (checked_number (outcome result)) }
 {
-    let recorded = checks::check_record(word);
-    let Checked::Passed = recorded else {
-        *refusal = recorded.number();
-        return &word[..0];
-    };
-    part_at(word, pairs, number, refusal)
+    let record = Record::admit(word)?;
+    part_at(record, pairs, number)
 }
