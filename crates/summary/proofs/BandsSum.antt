@@ -10,10 +10,10 @@ use Rattle.words.specs.Words.{most_letters}
 use Rattle.words.specs.Pairs.{ends_of}
 use Rattle.theory.specs.Places.EndsRise.{Rises, done, more}
 use Rattle.theory.specs.Places.EndsRise.{rises-few}
-use Rattle.checks.specs.Lines.{Line, tried, decided, Checked, Passed, Refused}
-use Rattle.checks.specs.Doors.{Guards}
+use Rattle.checks.specs.Lines.{Line, Accepted, tried, decided, Checked, Passed, Refused}
+use Rattle.checks.specs.Answers.{gives, refuses, values_or}
 use Rattle.summary.specs.declared.Summary.{Summary}
-use Rattle.summary.specs.Summary.{summary_lines, lengths_from, bit_length_of, count_of, bands_of, empty_summary, summary_of, Summarized}
+use Rattle.summary.specs.Summary.{summary_lines, lengths_from, bit_length_of, count_of, bands_of, summary_of, no_summary, SummaryAnswer, summary_says, Summarized}
 use Rattle.summary.proofs.EndsAdmitted.{EndsAccepted, all-admitted}
 use Rattle.summary.proofs.BitLengths.{bit-length-most, bit-length-some}
 use Rattle.summary.specs.Tallies.{bands_from}
@@ -55,7 +55,8 @@ pub bands-sum : (n : ℕ) (es : List ℕ) → Rises n 0 es → n ≤ most_letter
 bands-sum n es r l = rw (bands-are-counts es) (bands-sum-from r l)
 
 -- beside a refusal all are 0
-pub summary-bands-sum : {door : List Line} {w ps : List ℕ} {r : Summary} → Guards door w → Summarized door w ps r → sum ◌+◌ 0 r.bands ≡ r.count
+pub summary-bands-sum : {door : List Line} {w ps : List ℕ} {r : SummaryAnswer} → (tried door ≡ Passed → Accepted w) → Summarized door w ps r
+    → let s = values_or no_summary (summary_says r) in sum ◌+◌ 0 s.bands ≡ s.count
 unfolding sum summary_of
 summary-bands-sum {door} {w} {ps} g s = rw s.answer (go (tried (door ++ summary_lines w ps)) (all-admitted door w ps g))
   where
@@ -63,6 +64,6 @@ summary-bands-sum {door} {w} {ps} g s = rw s.answer (go (tried (door ++ summary_
     es = ends_of ps
 
     go : (k : Checked) → (k ≡ Passed → EndsAccepted w es)
-        → sum ◌+◌ 0 (decided k (summary_of es) empty_summary).bands ≡ (decided k (summary_of es) empty_summary).count
+        → (let s = values_or no_summary (decided k (gives (summary_of es)) refuses) in sum ◌+◌ 0 s.bands ≡ s.count)
     go Passed g = bands-sum (length w) es (g refl).rises (g refl).letters
     go (Refused e) g = refl

@@ -1,6 +1,6 @@
 -- THEOREMS latest-longest, summary-latest: the longest part and its place by the summary's definitions, and so of every result of the summary, are what
 -- request 101 says (LatestLongest). No other two numbers are so (latest-only).
-use mathlib.Core.Path.{◌≡◌, refl}
+use mathlib.Core.Path.{◌≡◌, refl, ap, sym}
 use mathlib.Core.Logic.{⊎_elim}
 use mathlib.Core.Bool.{true}
 use mathlib.Core.List.{List, [], ◌∷◌, ◌++◌}
@@ -15,12 +15,12 @@ use Rattle.theory.specs.Statements.{Adjacent, here, there}
 use Rattle.theory.specs.Places.Ends.{adjacent-cases, adjacent-one}
 use Rattle.theory.specs.Places.EndsRise.{Rises, done, more}
 use Rattle.theory.specs.Places.Parts.{rises-adjacent}
-use Rattle.checks.specs.Lines.{Line, tried, decided, Checked, Passed, Refused}
-use Rattle.checks.specs.Doors.{Guards}
-use Rattle.checks.specs.Answers.{checked_number}
-use Rattle.checks.proofs.LineLaws.{not-both, every_number, every-joined, zero-passes}
+use Rattle.std.specs.Prelude.{Ok}
+use Rattle.checks.specs.Lines.{Line, Accepted, tried, decided, Checked, Passed, Refused}
+use Rattle.checks.specs.Answers.{gives, refuses, checked, values_or}
+use Rattle.checks.proofs.LineLaws.{not-both}
 use Rattle.summary.specs.declared.Summary.{Summary}
-use Rattle.summary.specs.Summary.{summary_lines, lengths_from, greatest, start_of, count_of, summary_of, empty_summary, Summarized}
+use Rattle.summary.specs.Summary.{summary_lines, lengths_from, greatest, start_of, count_of, summary_of, no_summary, Summarized}
 use Rattle.summary.specs.SummaryStatements.{LatestLongest}
 use Rattle.summary.proofs.EndsAdmitted.{EndsAccepted, all-admitted}
 use Rattle.summary.proofs.SummaryLaws.{start-here, start-later, count-here, count-other, count-more, count-greatest}
@@ -91,20 +91,14 @@ latest-longest {es = es} r l =
     let x = start-latest (greatest (lengths_from 0 es)) r (count-greatest _ (lengths_from 0 es) refl (greatest-some r l)) in
     record { begins = x.begins; most = λ i j p. greatest-most es p; latest = x.latest }
 
-pub summary-latest : {door : List Line} {w ps : List ℕ} {r : Summary} → Guards door w → every_number (ltb 0) door ≡ true → Summarized door w ps r
-    → r.refusal ≡ 0 → LatestLongest (ends_of ps) r.longest r.from
+pub summary-latest : {door : List Line} {w ps : List ℕ} {s : Summary} → (tried door ≡ Passed → Accepted w) → Summarized door w ps (Ok s)
+    → LatestLongest (ends_of ps) s.longest s.from
 unfolding summary_of
-summary-latest {door} {w} {ps} g some s z =
-    let above = every-joined (ltb 0) door (summary_lines w ps) some refl in
-    rw s.answer (go (tried lines) (zero-passes lines above) (all-admitted door w ps g) (rw s.answer at z))
+summary-latest {door} {w} {ps} {s} g x = go (tried (door ++ summary_lines w ps)) (all-admitted door w ps g) x.answer
   where
     es : List ℕ
     es = ends_of ps
 
-    lines : List Line
-    lines = door ++ summary_lines w ps
-
-    go : (k : Checked) → (checked_number k ≡ 0 → k ≡ Passed) → (k ≡ Passed → EndsAccepted w es) → (decided k (summary_of es) empty_summary).refusal ≡ 0
-        → LatestLongest es (decided k (summary_of es) empty_summary).longest (decided k (summary_of es) empty_summary).from
-    go Passed p g z = latest-longest (g refl).rises (g refl).some
-    go (Refused e) p g z = absurd (not-both refl (p z))
+    go : (k : Checked) → (k ≡ Passed → EndsAccepted w es) → gives s ≡ decided k (gives (summary_of es)) refuses → LatestLongest es s.longest s.from
+    go Passed g e = rw (ap (values_or no_summary) e) (latest-longest (g refl).rises (g refl).some)
+    go (Refused number) g e = absurd (not-both refl (sym (ap checked e)))

@@ -126,7 +126,7 @@ module _ {es bands : List ℕ} {longest from last i : ℕ} (g : SummedUpTo es lo
         → digits ≡ bit_length_of (end - last) → 0 < digits → SummedUpTo es m f (counted_at (digits - 1) bands) end (i + 1)
     summed-on e above x b p = rw e (summed-next (rw e at above) (rw e at x) (rw e at b) p)
 
-  summed-end : length es ≤ i → record { refusal = 0; count = i; longest = longest; from = from; bands = bands } ≡ summary_of es
+  summed-end : length es ≤ i → record { count = i; longest = longest; from = from; bands = bands } ≡ summary_of es
   unfolding summary_of lengths_from greatest
   summed-end l =
       let none = drop_of_length-le es {i = i} l in
@@ -135,13 +135,12 @@ module _ {es bands : List ℕ} {longest from last i : ℕ} (g : SummedUpTo es lo
       let most : longest ≡ longest_of es = omega (arith, n.most) in
       let start = longest-end n in
       let all = banded-end es bands last (rw none at g.bands-are) in
-      λ t. record { refusal = 0; count = count t; longest = most t; from = start t; bands = all t }
+      λ t. record { count = count t; longest = most t; from = start t; bands = all t }
 
 -- ---- the tally
 
 -- the part's length is held against the longest
 pub record Weighed (t : Tally) (size : ℕ) (s : Tally) : Type 0 where
-  pub refusal : s.summary.refusal ≡ t.summary.refusal
   pub count : s.summary.count ≡ t.summary.count
   pub bands : s.summary.bands ≡ t.summary.bands
   pub chosen : Chosen size t.summary.longest t.summary.from t.last s.summary.longest s.summary.from
@@ -159,7 +158,6 @@ module _ {es : List ℕ} {t : Tally} {end : ℕ} (n : NextEnd es t end) where
 
     pub tally-next : {d : ℕ} → d ≡ bit_length_of (end - t.last) → Tallied es (record {
       summary = record {
-        refusal = s.summary.refusal;
         count = s.summary.count + 1;
         longest = s.summary.longest;
         from = s.summary.from;
@@ -168,12 +166,8 @@ module _ {es : List ℕ} {t : Tally} {end : ℕ} (n : NextEnd es t end) where
       last = end;
     })
     tally-next b = record {
-      none = w.refusal ∙ n.tallied.none;
       summed = rw (w.count, w.bands) (summed-on n.tallied.summed n.some n.is tally-above w.chosen b (tally-band b).0);
     }
 
 pub tally-end : {es : List ℕ} {t : Tally} → Tallied es t → length es ≤ t.summary.count → t.summary ≡ summary_of es
-tally-end {t = t} g l =
-    let s = t.summary in
-    let refused : ℕ → Summary = λ r. record { refusal = r; count = s.count; longest = s.longest; from = s.from; bands = s.bands } in
-    ap refused g.none ∙ summed-end g.summed l
+tally-end g l = summed-end g.summed l

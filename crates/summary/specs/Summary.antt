@@ -1,9 +1,11 @@
 -- DEFINITIONS. The summary: "the number of pieces; the longest piece's length and first place, .. and the band counts". Request 101: "The summary
 -- shall name the latest of the longest pieces."
-use Rattle.std.specs.Prelude.{◌≡◌, true, false, ◌&&◌, List, [], ◌∷◌, ◌++◌, map, ℕ, zero, suc, ◌-◌, ◌/◌, ◌≤◌, ◌<◌, max, length, get_or, replicate, eqb}
+use Rattle.std.specs.Prelude.{◌≡◌, Result, true, false, ◌&&◌, List, [], ◌∷◌, ◌++◌, map, ℕ, zero, suc, ◌-◌, ◌/◌, ◌≤◌, ◌<◌, max, length, get_or, replicate, eqb}
 use Rattle.words.specs.Words.{most_letters}
 use Rattle.words.specs.Pairs.{ends_of}
 use Rattle.checks.specs.Lines.{Line, ◌unless◌then◌, pairs_line}
+use Rattle.checks.specs.declared.refusals.Refusal.{Refusal}
+use Rattle.checks.specs.Answers.{Says, gives, refuses, says_by}
 use Rattle.summary.specs.declared.Summary.{Summary}
 
 -- the summary's own line, tried past those at its door: 7, of a paired list
@@ -54,15 +56,22 @@ unfoldable pub summary_of : List ℕ → Summary
 unfolding lengths_from greatest start_of bands_of
 summary_of es =
     let longest = greatest (lengths_from 0 es) in
-    record { refusal = 0; count = length es; longest = longest; from = start_of longest 0 es; bands = bands_of es }
+    record { count = length es; longest = longest; from = start_of longest 0 es; bands = bands_of es }
 
--- a refusal's number alone: "Where other numbers must stand beside it, as the summary's, they are 0."
-abbrev pub empty_summary : ℕ → Summary
-empty_summary e = record { refusal = e; count = 0; longest = 0; from = 0; bands = replicate 13 0 }
+-- the numbers beside a refusal: "Where other numbers must stand beside it, as the summary's, they are 0."
+abbrev pub no_summary : Summary
+no_summary = record { count = 0; longest = 0; from = 0; bands = replicate 13 0 }
+
+-- the type of the call's answer, and what it says
+abbrev pub SummaryAnswer : Type 0
+SummaryAnswer = Result Summary Refusal
+
+abbrev pub summary_says : SummaryAnswer → Says Summary
+summary_says r = says_by (λ s. s) r
 
 -- the summary's promise, by the lines at its door: "the summary take[s] the paired list" (request 108), and sums up its ends
-pub record Summarized (door : List Line) (w ps : List ℕ) (r : Summary) : Type 0 where
-  pub answer : r ≡ summary_of (ends_of ps) unless door ++ summary_lines w ps then empty_summary
+pub record Summarized (door : List Line) (w ps : List ℕ) (r : SummaryAnswer) : Type 0 where
+  pub answer : summary_says r ≡ gives (summary_of (ends_of ps)) unless door ++ summary_lines w ps then refuses
 
 -- ---- inside
 

@@ -32,7 +32,6 @@ pub record SummedUpTo (es : List ℕ) (longest from : ℕ) (bands : List ℕ) (l
   pub bands-are : Banded es bands last (drop i es)
 
 pub record Tallied (es : List ℕ) (t : Tally) : Type 0 where
-  pub none : t.summary.refusal ≡ 0
   pub summed : SummedUpTo es t.summary.longest t.summary.from t.summary.bands t.last t.summary.count
 
 -- the end of the next part

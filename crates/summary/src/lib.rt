@@ -4,18 +4,15 @@
 
 ghost use Rattle.std.specs.Prelude.{◌≡◌, ℕ, ◌+◌, List, []};
 ghost use Rattle.words.specs.Pairs.{ends_of};
-ghost use Rattle.checks.specs.Lines.{record_lines, Accepted};
+ghost use Rattle.checks.specs.Lines.{record_lines};
 ghost use Rattle.summary.specs.Tallies.{Tallied, NextEnd};
-ghost use Rattle.summary.specs.Summary.{bit_length_of, empty_summary, summary_of, Summarized, Summable};
+ghost use Rattle.summary.specs.Summary.{bit_length_of, summary_of, Summarized, Summable};
 
-use checks::Checked;
+use checks::{Record, Refusal};
 
-/// What the parts come to. Beside a refusal all fields but its number are 0.
-#[repr(C)]
-#[derive(Drop)]
+/// What the parts come to.
+#[derive(Clone, Copy, Drop)]
 pub struct Summary {
-    /// The refusal's number, 0 for a result.
-    pub refusal: u8,
     /// How many parts there are.
     pub count: u16,
     /// The greatest length of a part.
@@ -34,21 +31,6 @@ pub fn bit_length(n: u16) -> usize
     (16 - zeros) as usize
 }
 
-impl Summary {
-    // No part, and a refusal's number.
-    fn empty(refusal: u8) -> Summary
-        ensures { result ≡ empty_summary refusal }
-    {
-        Summary {
-            refusal,
-            count: 0,
-            longest: 0,
-            from: 0,
-            bands: [0u16; 13],
-        }
-    }
-}
-
 /// The summary of the parts that came so far, and where the last of them ends.
 #[derive(Drop)]
 pub struct Tally {
@@ -62,7 +44,12 @@ impl Tally {
         ensures { (es : List ℕ) → Tallied es result }
     {
         Tally {
-            summary: Summary::empty(0),
+            summary: Summary {
+                count: 0,
+                longest: 0,
+                from: 0,
+                bands: [0; 13],
+            },
             last: 0,
         }
     }
@@ -85,8 +72,8 @@ impl Tally {
     }
 }
 
-// The summary of the parts that a paired list marks.
-fn sum_up(pairs: &[u16]) -> Summary
+/// The summary of the parts that a paired list marks.
+pub fn sum_up(pairs: &[u16]) -> Summary
     requires { Summable (ends_of pairs.now) }
     ensures { result ≡ summary_of (ends_of pairs.now) }
 {
@@ -98,24 +85,17 @@ fn sum_up(pairs: &[u16]) -> Summary
 }
 
 /// The summary for an accepted record: the call's own line, 7, and its work.
-pub fn summarize_pairs(word: &[u8], pairs: &[u16]) -> Summary
-    requires { Accepted word.now }
-    ensures { Summarized [] word.now pairs.now result }
+pub fn summarize_pairs(record: Record, pairs: &[u16]) -> Result<Summary, Refusal>
+    ensures { Summarized [] record.entry.letters.now pairs.now result }
 {
-    let listed = checks::check_pairs(pairs, word.len());
-    let Checked::Passed = listed else {
-        return Summary::empty(listed.number());
-    };
-    sum_up(pairs)
+    checks::check_pairs(pairs, record.letters.len())?;
+    Ok(sum_up(pairs))
 }
 
-/// The summary of a record and a paired list, or refusal 1, 2 or 7.
-pub fn summarize(word: &[u8], pairs: &[u16]) -> Summary
+/// The summary of a record and a paired list. Refusals 1, 2, 7.
+pub fn summarize(word: &[u8], pairs: &[u16]) -> Result<Summary, Refusal>
     ensures { Summarized (record_lines word.now) word.now pairs.now result }
 {
-    let recorded = checks::check_record(word);
-    let Checked::Passed = recorded else {
-        return Summary::empty(recorded.number());
-    };
-    summarize_pairs(word, pairs)
+    let record = Record::admit(word)?;
+    summarize_pairs(record, pairs)
 }

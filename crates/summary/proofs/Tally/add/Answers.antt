@@ -9,8 +9,8 @@ use Rattle.summary.proofs.Tally.add.Goals.{After-bit_length-band, then-self-size
 
 weighed : (c : After-bit_length-band) → Weighed c.args.self.now (c.args.end - c.args.self.now.last) c.if-self-size.self
 weighed c = elim c.if-self-size.branch [
-  | then-self-size w ↦ rw w.self-is (record { refusal = refl; count = refl; bands = refl; chosen = inr (w.if-self-size.true, refl, refl) })
-  | else-self-size w ↦ rw w.self-is (record { refusal = refl; count = refl; bands = refl; chosen = inl (w.if-self-size.false, refl, refl) })
+  | then-self-size w ↦ rw w.self-is (record { count = refl; bands = refl; chosen = inr (w.if-self-size.true, refl, refl) })
+  | else-self-size w ↦ rw w.self-is (record { count = refl; bands = refl; chosen = inl (w.if-self-size.false, refl, refl) })
 ]
 
 pub overflow_sub-band : goal.overflow_sub-band
