@@ -5,4 +5,4 @@ use Rattle.letters.proofs.compare_from.Goals as goal
 
 pub returns : goal.returns
 returns c =
-    prefix-ordered c.loop-k.invariant (omega (arith, c.shorter-most.ensures, c.loop-k-test.false)) c.prefix_order.ensures
+    prefix-ordered c.loop-k.invariant (omega (arith, c.min-k-end.ensures, c.loop-k-test.false)) c.prefix_order.ensures
