@@ -6,29 +6,24 @@ use mathlib.Core.List.{List, [], ◌∷◌, map}
 use Prim.Native.Nat.{ℕ, zero, suc, ◌+◌, ◌-◌, ◌<◌}
 use native.Mathlib.Omega.{arith}
 use lib.ListN.{length, take, drop, get_or}
-use lib.Dec.{ltb}
+use mir.Syntax.{w8}
+use mir.Val.{Fits}
 use Rattle.buffers.proofs.PartLaws.{part, rest, rest-is}
 use Rattle.words.specs.Words.{◌≺◌, mismatch, common_length_of}
-use Rattle.theory.specs.Orders.Decisions.{Decides, holds, fails, leb-test}
+use Rattle.theory.specs.Orders.Decisions.{Decides, holds, fails}
 use Rattle.theory.specs.Orders.InverseLaws.{pre, ≺-≼, ≺-not-≼, ≼-not-≪}
-use Rattle.theory.specs.Orders.CommonLength.{Agree, common-agree, agree-sym, agree-⊑, agree-shorter, agree-≪}
+use Rattle.theory.specs.Orders.CommonLength.{Agree, matched-none, common-agree, agree-sym, agree-⊑, agree-shorter, agree-≪}
 use Rattle.theory.specs.Repetitions.TwoOrders.{reversed}
 use Rattle.theory.specs.Repetitions.TwoOrders.{UpTo, reversed-length, reversed-at}
-use Rattle.common.specs.Orders.{most_byte, in_order, Precedes}
+use Rattle.common.specs.Orders.{most_byte, in_order, Precedes, BothBegin}
 
 -- ---- letters
 
-pub natural-decides : {natural : Bool} (a b : ℕ) → natural ≡ true → Decides (Precedes natural a b) (ltb a b)
-natural-decides a b e = rw e (leb-test (suc a) b)
-
-pub inverse-decides : {natural : Bool} (a b : ℕ) → natural ≡ false → Decides (Precedes natural a b) (ltb b a)
-inverse-decides a b e = rw e (leb-test (suc b) a)
+-- a word of bytes
+pub bytes : (w : List ℕ) → ((k : ℕ) → Fits w8 (get_or w k 0)) → UpTo most_byte w
+bytes w f k = omega (arith, (f k).fits)
 
 -- ---- words
-
--- in the inverse order they are as they are
-pub inverse-is : (natural : Bool) {t : Bool} (u v : List ℕ) → natural ≡ false → Decides (u ≺ v) t → Decides (in_order natural u ≺ in_order natural v) t
-inverse-is natural u v e d = rw e d
 
 pub in-order-length : (natural : Bool) (w : List ℕ) → length (in_order natural w) ≡ length w
 in-order-length true w = reversed-length most_byte w
@@ -79,11 +74,17 @@ precedes-other : (natural : Bool) (a b : ℕ) → ¬ (a ≡ b) → ¬ Precedes n
 precedes-other true a b n h = omega arith
 precedes-other false a b n h = omega arith
 
--- as far as they agree: one letter more than what follows equal first letters
-pub agree-next : (u v : List ℕ) (r : ℕ) → 0 < length u → 0 < length v → get_or v 0 0 ≡ get_or u 0 0 → r ≡ common_length_of (rest 1 u) (rest 1 v) → Agree u v (1 + r)
-agree-next [] v r p q e k = absurd (omega arith)
-agree-next (a ∷ u) [] r p q e k = absurd (omega arith)
-agree-next (a ∷ u) (b ∷ v) r p q e k = go (common-agree u v)
+-- ---- where two words part
+
+-- at their first letters
+pub agree-first : (u v : List ℕ) → ¬ (get_or v 0 0 ≡ get_or u 0 0) → Agree u v 0
+agree-first u v d = record { matched = matched-none u v; differ = λ h k e. d (sym e) }
+
+-- one letter more than what follows equal first letters agrees
+pub agree-next : {u v : List ℕ} {r : ℕ} → BothBegin u v → get_or v 0 0 ≡ get_or u 0 0 → r ≡ common_length_of (rest 1 u) (rest 1 v) → Agree u v (1 + r)
+agree-next {u = []} h e k = absurd (let o = h.left in omega arith)
+agree-next {u = a ∷ u} {v = []} h e k = absurd (let o = h.right in omega arith)
+agree-next {u = a ∷ u} {v = b ∷ v} {r = r} h e k = go (common-agree u v)
   where
     size : r ≡ common_length_of u v
     size = k ∙ rw (rest-is 1 (a ∷ u), rest-is 1 (b ∷ v))

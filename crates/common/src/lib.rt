@@ -2,7 +2,7 @@
 //! order of the letters.
 #![tactic(auto)]
 
-mod orders; // precedes, comes_before: letters and words in either order of the letters
+mod orders; // LetterOrder, comes_before: letters and words in either order of the letters
 
 ghost use Rattle.std.specs.Prelude.{◌≡◌};
 ghost use Rattle.words.specs.Words.{common_length_of};
@@ -10,16 +10,17 @@ ghost use Rattle.letters.specs.Steps.{Ordered};
 
 use eights::{eight_at, equal_bytes};
 use letters::{Order, parted_at};
-pub use orders::{comes_before, precedes};
+pub use orders::{Inverse, LetterOrder, Natural, comes_before};
 
 /// Compares two words: eight letters in a step where both have eight more, then one by one. The sign is read off at the
 /// first difference.
 pub fn compare_words(x: &[u8], y: &[u8]) -> Order
     ensures { Ordered x.now y.now result }
 {
-    let most = letters::shorter(x.len(), y.len());
+    let most = x.len().min(y.len());
     let whole = most - most % 8;
     let mut l: usize = 0;
+    // A for over the number of eights keeps a second count in its step: on 4,096 equal letters it took a fifth longer.
     while l < whole {
         let v = eight_at(x, l);
         let w = eight_at(y, l);
