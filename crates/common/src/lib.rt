@@ -6,16 +6,16 @@ mod orders; // LetterOrder, comes_before: letters and words in either order of t
 
 ghost use Rattle.std.specs.Prelude.{◌≡◌};
 ghost use Rattle.words.specs.Words.{common_length_of};
-ghost use Rattle.letters.specs.Steps.{Ordered};
+ghost use Rattle.letters.specs.Steps.{Parting, Ordered};
 
 use eights::{eight_at, equal_bytes};
-use letters::{Order, parted_at};
+use letters::Order;
 pub use orders::{Inverse, LetterOrder, Natural, comes_before};
 
-/// Compares two words: eight letters in a step where both have eight more, then one by one. The sign is read off at the
-/// first difference.
-pub fn compare_words(x: &[u8], y: &[u8]) -> Order
-    ensures { Ordered x.now y.now result }
+// Where two words part: eight letters in a step where both have eight more, then one by one. None if one is a prefix of
+// the other.
+fn parting(x: &[u8], y: &[u8]) -> Option<usize>
+    ensures { Parting x.now y.now result }
 {
     let most = x.len().min(y.len());
     let whole = most - most % 8;
@@ -25,11 +25,21 @@ pub fn compare_words(x: &[u8], y: &[u8]) -> Order
         let v = eight_at(x, l);
         let w = eight_at(y, l);
         if v != w {
-            return parted_at(x, y, l + equal_bytes(v, w) as usize);
+            return Some(l + equal_bytes(v, w) as usize);
         }
         l += 8;
     }
-    letters::compare_from(x, y, l)
+    letters::parting_from(x, y, l)
+}
+
+/// Compares two words. The sign is read off at the first difference.
+pub fn compare_words(x: &[u8], y: &[u8]) -> Order
+    ensures { Ordered x.now y.now result }
+{
+    match parting(x, y) {
+        Some(l) => letters::parted_at(x, y, l),
+        None => letters::prefix_order(x.len(), y.len()),
+    }
 }
 
 /// The number of equal leading letters of x and y.

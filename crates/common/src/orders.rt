@@ -5,7 +5,7 @@ ghost use Rattle.words.specs.Words.{◌≺◌};
 ghost use Rattle.theory.specs.Orders.Decisions.{Decides};
 ghost use Rattle.common.specs.Orders.{in_order, Precedes, BothBegin};
 
-use super::common_length;
+use super::parting;
 
 /// An order of the letters.
 pub trait LetterOrder {
@@ -49,12 +49,8 @@ pub fn comes_before<O: LetterOrder>(u: &[u8], v: &[u8]) -> bool
     if b != a {
         return O::precedes(a, b);
     }
-    let l = 1 + common_length(&u[1..], &v[1..]);
-    if l == v.len() {
-        return false;
+    match parting(&u[1..], &v[1..]) {
+        Some(l) => O::precedes(u[1 + l], v[1 + l]),
+        None => u.len() < v.len(),
     }
-    if l == u.len() {
-        return true;
-    }
-    O::precedes(u[l], v[l])
 }

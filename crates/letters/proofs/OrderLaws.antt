@@ -1,5 +1,5 @@
 -- Two words where they part: the sign by the letters there (letters-ordered), or sign and number by the lengths (prefix-signed, prefix-ordered).
-use mathlib.Core.Path.{◌≡◌, sym}
+use mathlib.Core.Path.{◌≡◌, sym, ◌∙◌}
 use mathlib.Core.List.{List}
 use Prim.Native.Nat.{ℕ, ◌≤◌, ◌<◌, min}
 use native.Mathlib.Omega.{arith}
@@ -32,17 +32,16 @@ prefix-signed m n r e = go r (ranked m n r e)
     go Greater h = PrefixSign.after h
 
 -- the letters are equal to the end of one of them
-module _ {x y : List ℕ} {l : ℕ} (g : Matched x y l) (m : min (length x) (length y) ≤ l) where
-  ended : Agree x y l
-  ended = record { matched = g; differ = λ h k. absurd (omega arith) }
+pub ended : {x y : List ℕ} {l : ℕ} → Matched x y l → min (length x) (length y) ≤ l → Agree x y (min (length x) (length y))
+ended {x} {y} {l} g m =
+    let e : l ≡ min (length x) (length y) = omega (arith, g.left, g.right) in
+    record { matched = rw e at g; differ = λ h k. absurd (omega arith) }
 
+module _ {x y : List ℕ} (g : Agree x y (min (length x) (length y))) where
   prefix-sign : {r : Ordering} → PrefixSign (length x) (length y) r → SignOfWords x y (sign_of r)
-  prefix-sign (PrefixSign.before h) = before (agree-shorter ended (omega arith) h)
-  prefix-sign (PrefixSign.same e) = same (agree_same ended (omega arith) (omega arith))
-  prefix-sign (PrefixSign.after h) = after (agree-shorter (agree-sym ended) (omega arith) h)
+  prefix-sign (PrefixSign.before h) = before (agree-shorter g (omega arith) h)
+  prefix-sign (PrefixSign.same e) = same (agree_same g (omega arith) (omega arith))
+  prefix-sign (PrefixSign.after h) = after (agree-shorter (agree-sym g) (omega arith) h)
 
   pub prefix-ordered : {r : Order} → PrefixOrdered (length x) (length y) r → Ordered x y r
-  prefix-ordered o = record {
-    sign-is = prefix-sign o.sign-is;
-    common-is = omega (arith, o.common-is, agree-unique x y l ended, g.left, g.right);
-  }
+  prefix-ordered o = record { sign-is = prefix-sign o.sign-is; common-is = o.common-is ∙ agree-unique x y (min (length x) (length y)) g }

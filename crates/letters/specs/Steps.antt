@@ -1,5 +1,5 @@
 -- What the comparison's inner functions ask and promise. No call's promise cites this file.
-use Rattle.std.specs.Prelude.{◌≡◌, List, ℕ, ◌<◌, min, length, ℤ, pos, negsuc}
+use Rattle.std.specs.Prelude.{◌≡◌, Option, Some, None, List, ℕ, ◌<◌, min, length, ℤ, pos, negsuc}
 use Rattle.std.specs.declared.cmp.Ordering.{Ordering}
 use Rattle.std.specs.declared.cmp.Ordering.TheVariants.{Less, Equal, Greater}
 use Rattle.words.specs.Words.{common_length_of}
@@ -12,6 +12,11 @@ pub record PartedAt (x y : List ℕ) (l : ℕ) : Type 0 where
   pub agree : Agree x y l
   pub left : l < length x
   pub right : l < length y
+
+-- where two words part, if they do; else one is a prefix of the other
+abbrev pub Parting : List ℕ → List ℕ → Option ℕ → Type 0
+Parting x y (Some l) = PartedAt x y l
+Parting x y None = Agree x y (min (length x) (length y))
 
 -- the sign as the paper's number
 abbrev pub sign_of : Ordering → ℤ

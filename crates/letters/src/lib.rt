@@ -3,7 +3,7 @@
 #![tactic(auto)]
 
 ghost use Rattle.theory.specs.Orders.CommonLength.{Matched};
-ghost use Rattle.letters.specs.Steps.{PrefixOrdered, PartedAt, Ordered};
+ghost use Rattle.letters.specs.Steps.{PrefixOrdered, PartedAt, Parting, Ordered};
 
 use std::cmp::Ordering;
 
@@ -15,8 +15,8 @@ pub struct Order {
     pub common: usize,
 }
 
-// A word of m letters and one of n compared, of which one is a prefix of the other: the shorter one comes first.
-fn prefix_order(m: usize, n: usize) -> Order
+/// A word of m letters and one of n compared, of which one is a prefix of the other: the shorter one comes first.
+pub fn prefix_order(m: usize, n: usize) -> Order
     ensures { PrefixOrdered m n result }
 {
     Order {
@@ -36,15 +36,16 @@ pub fn parted_at(x: &[u8], y: &[u8], l: usize) -> Order
     }
 }
 
-/// Compares two words with l equal leading letters, letter by letter from there.
-pub fn compare_from(x: &[u8], y: &[u8], l: usize) -> Order
+/// Where two words with l equal leading letters part: at the first place from there where both have letters that differ.
+/// None if one is a prefix of the other.
+pub fn parting_from(x: &[u8], y: &[u8], l: usize) -> Option<usize>
     requires { Matched x.now y.now l }
-    ensures { Ordered x.now y.now result }
+    ensures { Parting x.now y.now result }
 {
     for k in l..x.len().min(y.len()) {
         if x[k] != y[k] {
-            return parted_at(x, y, k);
+            return Some(k);
         }
     }
-    prefix_order(x.len(), y.len())
+    None
 }
