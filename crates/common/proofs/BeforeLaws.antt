@@ -1,15 +1,14 @@
--- What is read of two words tells whether u comes before v in the inverse order: first letters that differ (first-decide), what follows equal ones
--- (rest-decides), or the lengths where one word is a prefix of the other (lengths-decide).
+-- What is read of two words tells whether u comes before v in the inverse order: first letters that differ (first-decide), or the lengths where one word
+-- is a prefix of the other (lengths-decide).
 use mathlib.Core.Path.{◌≡◌, sym}
-use mathlib.Core.List.{List, [], ◌∷◌}
+use mathlib.Core.List.{List}
 use mathlib.Core.Bool.{Bool}
 use Prim.Native.Nat.{ℕ, suc, ◌≤◌, ◌<◌, min}
 use native.Mathlib.Omega.{arith}
 use lib.ListN.{length, get_or}
 use lib.Dec.{ltb}
-use Rattle.buffers.proofs.PartLaws.{rest, rest-is}
 use Rattle.words.specs.Words.{◌≺◌, mismatch}
-use Rattle.theory.specs.Orders.InverseLaws.{won, pre, ≼-cons, ≺-cons, ≺-not-≼, not-≺-≼}
+use Rattle.theory.specs.Orders.InverseLaws.{won, pre, ≺-not-≼}
 use Rattle.theory.specs.Orders.Decisions.{Decides, holds, fails, leb-test}
 use Rattle.theory.specs.Orders.CommonLength.{Agree, matched-none, agree-sym, agree-⊑, agree-shorter, agree-≪, agree-≪-sym}
 
@@ -36,16 +35,5 @@ module _ {u v : List ℕ} {l : ℕ} (g : Agree u v l) where
 
 -- ---- the first letters
 
-pub agree-first : (u v : List ℕ) → ¬ (get_or v 0 0 ≡ get_or u 0 0) → Agree u v 0
-agree-first u v d = record { matched = matched-none u v; differ = λ h k e. d (sym e) }
-
 pub first-decide : (u v : List ℕ) → 0 < length u → 0 < length v → ¬ (get_or v 0 0 ≡ get_or u 0 0) → Decides (u ≺ v) (ltb (get_or v 0 0) (get_or u 0 0))
-first-decide u v p q d = letters-decide (agree-first u v d) (omega arith)
-
--- equal first letters: what follows them decides
-pub rest-decides : (u v : List ℕ) {t : Bool} → 0 < length u → 0 < length v → get_or v 0 0 ≡ get_or u 0 0 → Decides (rest 1 u ≺ rest 1 v) t → Decides (u ≺ v) t
-rest-decides [] v p q e d = absurd (omega arith)
-rest-decides (a ∷ u) [] p q e d = absurd (omega arith)
-rest-decides (a ∷ u) (b ∷ v) p q e d =
-    let same : b ≡ a = e in
-    rw same (decided-by (≺-cons a) (λ h x. ≺-not-≼ x (≼-cons a (not-≺-≼ u v h))) (rw (rest-is 1 (a ∷ u), rest-is 1 (b ∷ v)) at d))
+first-decide u v p q d = letters-decide (record { matched = matched-none u v; differ = λ h k e. d (sym e) }) (omega arith)

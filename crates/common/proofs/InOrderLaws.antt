@@ -1,34 +1,31 @@
 -- Words in either order of the letters, as the code compares them: two words agree as far in both orders (agree-in-order), and the letters where they part
--- decide which comes first (parted-decide), or that one is a prefix of the other (whole-fails, prefix_holds).
+-- decide which comes first (parted-decide), or the lengths where one is a prefix of the other (ends-decide).
 use mathlib.Core.Path.{◌≡◌, refl, ap, sym, ◌∙◌}
 use mathlib.Core.Bool.{Bool, true, false}
 use mathlib.Core.List.{List, [], ◌∷◌, map}
-use Prim.Native.Nat.{ℕ, zero, suc, ◌+◌, ◌-◌, ◌<◌}
-use native.Mathlib.Omega.{arith}
-use lib.ListN.{length, take, drop, get_or}
+use Prim.Native.Nat.{ℕ, zero, suc, ◌+◌, ◌-◌, ◌≤◌, ◌<◌, min}
 use lib.Dec.{ltb}
+use Rattle.common.proofs.BeforeLaws.{lengths-decide}
+use native.Mathlib.Omega.{arith}
+use lib.ListN.{length, take, drop, get_or, length-drop}
+use mir.Syntax.{w8}
+use mir.Val.{Fits}
 use Rattle.buffers.proofs.PartLaws.{part, rest, rest-is}
-use Rattle.words.specs.Words.{◌≺◌, mismatch, common_length_of}
-use Rattle.theory.specs.Orders.Decisions.{Decides, holds, fails, leb-test}
-use Rattle.theory.specs.Orders.InverseLaws.{pre, ≺-≼, ≺-not-≼, ≼-not-≪}
-use Rattle.theory.specs.Orders.CommonLength.{Agree, common-agree, agree-sym, agree-⊑, agree-shorter, agree-≪}
+use Rattle.words.specs.Words.{◌≺◌, mismatch}
+use Rattle.theory.specs.Orders.Decisions.{Decides, holds, fails}
+use Rattle.theory.specs.Orders.InverseLaws.{≺-≼, ≼-not-≪}
+use Rattle.theory.specs.Orders.CommonLength.{Agree, matched-none, agree-sym, agree-≪}
 use Rattle.theory.specs.Repetitions.TwoOrders.{reversed}
 use Rattle.theory.specs.Repetitions.TwoOrders.{UpTo, reversed-length, reversed-at}
-use Rattle.common.specs.Orders.{most_byte, in_order, Precedes}
+use Rattle.common.specs.Orders.{most_byte, in_order, Precedes, BothBegin}
 
 -- ---- letters
 
-pub natural-decides : {natural : Bool} (a b : ℕ) → natural ≡ true → Decides (Precedes natural a b) (ltb a b)
-natural-decides a b e = rw e (leb-test (suc a) b)
-
-pub inverse-decides : {natural : Bool} (a b : ℕ) → natural ≡ false → Decides (Precedes natural a b) (ltb b a)
-inverse-decides a b e = rw e (leb-test (suc b) a)
+-- a word of bytes
+pub bytes : (w : List ℕ) → ((k : ℕ) → Fits w8 (get_or w k 0)) → UpTo most_byte w
+bytes w f k = omega (arith, (f k).fits)
 
 -- ---- words
-
--- in the inverse order they are as they are
-pub inverse-is : (natural : Bool) {t : Bool} (u v : List ℕ) → natural ≡ false → Decides (u ≺ v) t → Decides (in_order natural u ≺ in_order natural v) t
-inverse-is natural u v e d = rw e d
 
 pub in-order-length : (natural : Bool) (w : List ℕ) → length (in_order natural w) ≡ length w
 in-order-length true w = reversed-length most_byte w
@@ -79,25 +76,32 @@ precedes-other : (natural : Bool) (a b : ℕ) → ¬ (a ≡ b) → ¬ Precedes n
 precedes-other true a b n h = omega arith
 precedes-other false a b n h = omega arith
 
--- as far as they agree: one letter more than what follows equal first letters
-pub agree-next : (u v : List ℕ) (r : ℕ) → 0 < length u → 0 < length v → get_or v 0 0 ≡ get_or u 0 0 → r ≡ common_length_of (rest 1 u) (rest 1 v) → Agree u v (1 + r)
-agree-next [] v r p q e k = absurd (omega arith)
-agree-next (a ∷ u) [] r p q e k = absurd (omega arith)
-agree-next (a ∷ u) (b ∷ v) r p q e k = go (common-agree u v)
-  where
-    size : r ≡ common_length_of u v
-    size = k ∙ rw (rest-is 1 (a ∷ u), rest-is 1 (b ∷ v))
+-- ---- where two words part
 
-    go : Agree u v (common_length_of u v) → Agree (a ∷ u) (b ∷ v) (1 + r)
+-- at their first letters
+pub agree-first : (u v : List ℕ) → ¬ (get_or v 0 0 ≡ get_or u 0 0) → Agree u v 0
+agree-first u v d = record { matched = matched-none u v; differ = λ h k e. d (sym e) }
+
+-- one letter more than what follows equal first letters agrees
+pub agree-next : {u v : List ℕ} {r : ℕ} → BothBegin u v → get_or v 0 0 ≡ get_or u 0 0 → Agree (rest 1 u) (rest 1 v) r → Agree u v (1 + r)
+agree-next {u = []} h e g = absurd (let o = h.left in omega arith)
+agree-next {u = a ∷ u} {v = []} h e g = absurd (let o = h.right in omega arith)
+agree-next {u = a ∷ u} {v = b ∷ v} {r = r} h e g = go (rw (rest-is 1 (a ∷ u), rest-is 1 (b ∷ v)) at g)
+  where
+    go : Agree u v r → Agree (a ∷ u) (b ∷ v) (1 + r)
     go g = record {
       matched = record {
-        left = omega (arith, g.matched.left, size);
-        right = omega (arith, g.matched.right, size);
+        left = omega (arith, g.matched.left);
+        right = omega (arith, g.matched.right);
         equal = λ t. elim t as (λ j. j < 1 + r → get_or (a ∷ u) j 0 ≡ get_or (b ∷ v) j 0)
-            [ zero ↦ λ h. sym e | suc s ↦ λ h. g.matched.equal s (omega (arith, size)) ];
+            [ zero ↦ λ h. sym e | suc s ↦ λ h. g.matched.equal s (omega arith) ];
       };
-      differ = let z : 1 + r ≡ suc (common_length_of u v) = omega (arith, size) in rw z (λ h n. g.differ (omega arith) (omega arith));
+      differ = let z : 1 + r ≡ suc r = omega arith in rw z (λ h n. g.differ (omega arith) (omega arith));
     }
+
+-- what follows the first letters is one letter shorter
+pub rest-length : (w : List ℕ) → length (rest 1 w) ≡ length w - 1
+rest-length w = rw (rest-is 1 w) (length-drop 1 w)
 
 module _ (natural : Bool) (u v : List ℕ) {l : ℕ} (p : UpTo most_byte u) (q : UpTo most_byte v) (g : Agree u v l) where
   agrees : Agree (in_order natural u) (in_order natural v) l
@@ -113,12 +117,8 @@ module _ (natural : Bool) (u v : List ℕ) {l : ℕ} (p : UpTo most_byte u) (q :
       let less = agree-≪ agrees (rw (in-order-length natural u) h) (rw (in-order-length natural v) k) (in-order-less natural v u l q p k h y) in
       fails (λ z. ≼-not-≪ (≺-≼ z) less)
 
-  -- v is a prefix of u
-  pub whole-fails : l ≡ length v → Decides (in_order natural u ≺ in_order natural v) false
-  whole-fails e = fails (λ z. ≺-not-≼ z (pre (agree-⊑ (agree-sym agrees) (rw (in-order-length natural v) (omega arith)))))
-
-  -- u is a proper prefix of v
-  pub prefix_holds : l ≡ length u → ¬ (l ≡ length v) → Decides (in_order natural u ≺ in_order natural v) true
-  prefix_holds e n =
-      let k : length u < length v = omega (arith, g.matched.right) in
-      holds (agree-shorter agrees (rw (in-order-length natural u) (omega arith)) (rw (in-order-length natural u, in-order-length natural v) k))
+  -- one is a prefix of the other
+  pub ends-decide : min (length u) (length v) ≤ l → Decides (in_order natural u ≺ in_order natural v) (ltb (length u) (length v))
+  ends-decide k =
+      let d = lengths-decide agrees (rw (in-order-length natural u, in-order-length natural v) k) in
+      rw (in-order-length natural u, in-order-length natural v) at d

@@ -4,28 +4,13 @@
 ghost use Rattle.std.specs.Prelude.{◌+◌, ◌≤◌, length};
 ghost use Rattle.eights.specs.Eights.{NumberAt, PairTells};
 
-// The two letters from l on as a number; four and eight are made of halves, the low one first. The compiler makes one
-// load of it.
-fn two_at(x: &[u8], l: usize) -> u16
-    requires { l + 2 ≤ length x.now }
-    ensures { NumberAt 2 x.now l result }
-{
-    x[l] as u16 + 256 * (x[l + 1] as u16)
-}
-
-fn four_at(x: &[u8], l: usize) -> u32
-    requires { l + 4 ≤ length x.now }
-    ensures { NumberAt 4 x.now l result }
-{
-    two_at(x, l) as u32 + 65536 * (two_at(x, l + 2) as u32)
-}
-
 /// The eight letters from l on as a number.
 pub fn eight_at(x: &[u8], l: usize) -> u64
     requires { l + 8 ≤ length x.now }
     ensures { NumberAt 8 x.now l result }
 {
-    four_at(x, l) as u64 + 4294967296 * (four_at(x, l + 4) as u64)
+    let a = &x[l..l + 8];
+    u64::from_le_bytes([a[0], a[1], a[2], a[3], a[4], a[5], a[6], a[7]])
 }
 
 /// How many leading letters of two eights are equal, by their numbers; 8 if all are. The lowest bit that differs lies

@@ -1,8 +1,7 @@
 -- One place, as the code looks for its run: how far the period repeats to the left (Leftwards), and what each test says of the candidate.
 use mathlib.Core.Path.{◌≡◌, refl, ap, sym, ◌∙◌}
-use mathlib.Core.Logic.{◌⊎◌, inl, inr}
 use mathlib.Core.List.{List, [], ◌∷◌}
-use Prim.Native.Nat.{ℕ, ◌+◌, ◌-◌, ◌≤◌, ◌<◌}
+use Prim.Native.Nat.{ℕ, ◌+◌, ◌-◌, ◌≤◌, ◌<◌, min}
 use native.Mathlib.Omega.{arith}
 use native.Mathlib.Decide.{ℕ_discrete}
 use lib.ListN.{length, drop, get_or}
@@ -13,42 +12,23 @@ use Rattle.theory.specs.Repetitions.RepeatsTo.{repeats-to-inside}
 use Rattle.theory.specs.Repetitions.TwoOrders.{UpTo}
 use Rattle.theory.proofs.Repetitions.TwoOrders.{longest-inside}
 use Rattle.theory.specs.Repetitions.Found.{left_of, Counts, found_with, found_period}
-use Rattle.theory.specs.Repetitions.Found.{EqualLeft, equal-left-more, agree-left-is, agree-left-unique, found-one, found_none, period-same, period-other}
+use Rattle.theory.specs.Repetitions.Found.{EqualLeft, agree-left-is, agree-left-unique, found-one, found_none, period-same, period-other}
 use Rattle.common.specs.Orders.{most_byte}
 
 -- ---- to the left
 
--- the loop stands at t, with l letters behind it
-pub record Leftwards (w : List ℕ) (i p l t : ℕ) : Type 0 where
-  pub place : t + l ≡ i
+-- the loop has passed l letters
+pub record Leftwards (w : List ℕ) (i p l : ℕ) : Type 0 where
   pub near : l ≤ p + 1
   pub equals : EqualLeft w p i l
 
-pub leftwards-begins : (w : List ℕ) (i p : ℕ) → Leftwards w i p 0 i
-leftwards-begins w i p = record { place = omega arith; near = omega arith; equals = record { inside = omega arith; equal = λ t a b. absurd (omega arith) } }
-
-module _ {w : List ℕ} {i p l t : ℕ} (g : Leftwards w i p l t) where
-  pub leftwards-more : 0 < t → l ≤ p → get_or w (t - 1) 0 ≡ get_or w (t - 1 + p) 0 → Leftwards w i p (l + 1) (t - 1)
-  leftwards-more o k e = record {
-    place = omega (arith, g.place);
-    near = omega arith;
-    equals = let z : i - l - 1 ≡ t - 1 = omega (arith, g.place) in equal-left-more g.equals (omega (arith, g.place)) (rw z e);
-  }
-
-  pub leftwards-parts : 0 < t → ¬ (get_or w (t - 1) 0 ≡ get_or w (t - 1 + p) 0) → l ≡ left_of w i p
-  leftwards-parts o d = agree-left-unique w p (p + 1) i l (record {
-    equals = g.equals;
-    near = g.near;
-    stops = λ a b e. let z : i - l - 1 ≡ t - 1 = omega (arith, g.place) in d (rw z at e);
-  })
+module _ {w : List ℕ} {i p l : ℕ} (g : Leftwards w i p l) where
+  pub leftwards-parts : ¬ (get_or w (i - l - 1) 0 ≡ get_or w (i - l - 1 + p) 0) → l ≡ left_of w i p
+  leftwards-parts d = agree-left-unique w p (p + 1) i l (record { equals = g.equals; near = g.near; stops = λ a b e. d e })
 
   -- the period is passed, or the first letter was met
-  pub leftwards-ends : (p < l) ⊎ (t ≡ 0) → l ≡ left_of w i p
-  leftwards-ends h = agree-left-unique w p (p + 1) i l (record { equals = g.equals; near = g.near; stops = λ a b e. go h a b })
-    where
-      go : (p < l) ⊎ (t ≡ 0) → l < i → l < p + 1 → ⊥
-      go (inl k) a b = omega arith
-      go (inr k) a b = omega (arith, g.place)
+  pub leftwards-ends : min i (p + 1) ≤ l → l ≡ left_of w i p
+  leftwards-ends h = agree-left-unique w p (p + 1) i l (record { equals = g.equals; near = g.near; stops = λ a b e. absurd (omega arith) })
 
 -- ---- the tests, with what was counted to both sides
 

@@ -1,14 +1,14 @@
 -- What the functions that look for a run at a place ask and promise. No call's promise cites this file.
-use Rattle.std.specs.Prelude.{List, [], ◌∷◌, ℕ, ◌+◌, ◌≤◌, ◌<◌, length}
+use Rattle.std.specs.Prelude.{Option, Some, None, List, [], ◌∷◌, ℕ, ◌+◌, ◌≤◌, ◌<◌, length}
 use Rattle.words.specs.Runs.{Triple}
 use Rattle.longest.specs.Longest.{LongestKnown}
-use Rattle.found.specs.declared.Found.{Found}
-use Rattle.found.specs.declared.Found.TheVariants.{None, Run}
+use Rattle.inserting.specs.declared.Run.{Run}
+use Rattle.inserting.specs.Inserting.{triple}
 
 -- what was found, as a list of at most one run
-abbrev pub found_runs : Found → List Triple
+abbrev pub found_runs : Option Run → List Triple
 found_runs None = []
-found_runs (Run first end period) = (first, end, period) ∷ []
+found_runs (Some run) = triple run ∷ []
 
 -- the place a period on is no later than the end of the word
 pub record LeftAsked (w : List ℕ) (i p : ℕ) : Type 0 where

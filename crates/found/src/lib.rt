@@ -8,16 +8,7 @@ ghost use Rattle.theory.specs.Repetitions.Found.{left_of, Counts, found_period, 
 ghost use Rattle.common.specs.Orders.{most_byte};
 ghost use Rattle.found.specs.Found.{found_runs, LeftAsked, PlaceKnown};
 
-/// What is found at a place: no run, or one with its first place, end and period.
-#[derive(Drop)]
-pub enum Found {
-    None,
-    Run {
-        first: usize,
-        end: usize,
-        period: usize,
-    },
-}
+use inserting::Run;
 
 // The period to be tried at a place.
 fn period_at(word: &[u8], longest: &[u16], i: usize) -> usize
@@ -36,19 +27,14 @@ fn left_of(word: &[u8], i: usize, period: usize) -> usize
     requires { LeftAsked word.now i period }
     ensures { result ≡ left_of word.now i period }
 {
-    let mut l: usize = 0;
-    let mut t = i;
-    while 0 < t {
-        if l > period {
-            return l;
-        }
-        t -= 1;
+    let most = i.min(period + 1);
+    for l in 0..most {
+        let t = i - l - 1;
         if word[t] != word[t + period] {
             return l;
         }
-        l += 1;
     }
-    l
+    most
 }
 
 // Whether a run that place i serves is listed by it. One whose word is of the natural order has to end before the
@@ -60,30 +46,30 @@ fn stands_for(word: &[u8], i: usize, end: usize) -> bool
     (word[i - 1] <= word[i]) | (end < word.len())
 }
 
-/// The run that the place i serves, with the first place of the word as 0.
-pub fn run_at(word: &[u8], longest: &[u16], i: usize) -> Found
+/// The run that the place i serves, if there is one, with the first place of the word as 0.
+pub fn run_at(word: &[u8], longest: &[u16], i: usize) -> Option<Run>
     requires { PlaceKnown word.now longest.now i }
     ensures { found_runs result ≡ found_at most_byte word.now i }
 {
     let period = period_at(word, longest, i);
     let left = left_of(word, i, period);
     if left == 0 {
-        return Found::None;
+        return None;
     }
     if period < left {
-        return Found::None;
+        return None;
     }
     let right = common::common_length(&word[i..], &word[i + period..]);
     if left + right < period {
-        return Found::None;
+        return None;
     }
     let end = i + period + right;
     if !stands_for(word, i, end) {
-        return Found::None;
+        return None;
     }
-    Found::Run {
+    Some(Run {
         first: i - left,
         end,
         period,
-    }
+    })
 }

@@ -8,7 +8,15 @@ use native.Mathlib.Numerals.{add-one, add-two}
 use lib.ListN.{length, take, drop, get_or, set}
 use lib.Seq.{sets, get_or-drop}
 use Rattle.buffers.proofs.GroupLaws.{grouped-append, grouped-length}
+use Rattle.std.specs.declared.cmp.Ordering.{Ordering}
+use Rattle.std.specs.declared.cmp.Ordering.TheVariants.{Less, Equal, Greater}
+use Rattle.std.specs.Ordering.{MatchOrdering, nat_cmp, is_lt, is_some_and, partial_ordering_then}
+use Rattle.std.specs.Prelude.{Some}
+use Rattle.std.proofs.Common.{inl, inr, ⊎_elim}
+use Rattle.std.proofs.lemmas.Cmp.{ranked}
 use Rattle.words.specs.Runs.{Triple}
+use Rattle.theory.specs.RunStatements.{Earlier}
+use Rattle.theory.specs.Orders.Decisions.{Decides, holds, fails}
 use Rattle.theory.specs.Repetitions.Insertion.{run_at}
 use Rattle.inserting.specs.Entries.{run_entries, entries_of_runs}
 use Rattle.inserting.specs.Inserting.{run_from, triples}
@@ -66,3 +74,17 @@ unfolding triples
 triples-take c zero xs l = refl
 triples-take zero (suc k) xs l = absurd (omega arith)
 triples-take (suc c) (suc k) xs l = ap (λ (t : List Triple). (get_or xs 0 0, get_or xs 1 0, get_or xs 2 0) ∷ t) (triples-take c k (drop 3 xs) (omega arith))
+
+-- ---- which run comes later
+
+-- by the pairs of first place and period
+pub earlier-pair : (r q : Triple) → Decides (Earlier r q) (is_some_and is_lt (partial_ordering_then (Some (nat_cmp r.0 q.0)) (Some (nat_cmp r.2 q.2))))
+earlier-pair r q = go (nat_cmp r.0 q.0) (nat_cmp r.2 q.2) (ranked r.0 q.0 (nat_cmp r.0 q.0) refl) (ranked r.2 q.2 (nat_cmp r.2 q.2) refl)
+  where
+    go : (o p : Ordering) → MatchOrdering o (r.0 < q.0) (r.0 ≡ q.0) (q.0 < r.0) → MatchOrdering p (r.2 < q.2) (r.2 ≡ q.2) (q.2 < r.2)
+        → Decides (Earlier r q) (is_some_and is_lt (partial_ordering_then (Some o) (Some p)))
+    go Less p h k = holds (inl h)
+    go Equal Less h k = holds (inr (h, k))
+    go Equal Equal h k = fails (⊎_elim (λ x. omega (arith, h)) (λ x. omega (arith, x.1)))
+    go Equal Greater h k = fails (⊎_elim (λ x. omega (arith, h)) (λ x. omega (arith, x.1)))
+    go Greater p h k = fails (⊎_elim (λ x. omega arith) (λ x. omega (arith, x.0)))

@@ -1,8 +1,13 @@
 -- What the functions that keep the runs of the result buffer in order ask and promise. No call's promise cites this file.
 use Rattle.std.specs.Prelude.{◌≡◌, List, [], ◌∷◌, ◌++◌, ℕ, zero, suc, ◌+◌, ◌*◌, ◌≤◌, length, take, drop, get_or}
+use Rattle.words.specs.Words.{most_letters}
 use Rattle.words.specs.Runs.{Triple}
 use Rattle.theory.specs.Repetitions.Insertion.{insert_run, InOrder}
-use Rattle.inserting.specs.Entries.{entries_of_runs}
+use Rattle.inserting.specs.declared.Run.{Run}
+
+-- a run as the definitions have it
+abbrev pub triple : Run → Triple
+triple r = (r.first, r.end, r.period)
 
 -- the run whose three entries stand from entry `at` on
 abbrev pub run_from : List ℕ → ℕ → Triple
@@ -18,14 +23,18 @@ pub record InsertRoom (xs : List ℕ) (count : ℕ) : Type 0 where
   pub room : 3 * count + 3 ≤ length xs
   pub in_order : InOrder (triples count xs)
 
--- place k is free: the runs before it stand where they stood, all others a place later
-pub record Freed (xs : List ℕ) (count k : ℕ) (xs' : List ℕ) : Type 0 where
+-- place k is that of a run among the first ones
+pub record Belongs (xs : List ℕ) (count : ℕ) (r : Triple) (k : ℕ) : Type 0 where
   pub inside : k ≤ count
-  pub before : take (3 * k) xs' ≡ take (3 * k) xs
-  pub after : drop (3 * k + 3) xs' ≡ entries_of_runs (drop k (triples count xs)) ++ drop (3 * count + 3) xs
+  pub belongs : insert_run r (triples count xs) ≡ take k (triples count xs) ++ r ∷ drop k (triples count xs)
 
--- and it is the place of a run with this first place and period, whatever its end
-pub record RoomMade (xs : List ℕ) (count first period k : ℕ) (xs' : List ℕ) : Type 0 where
-  pub freed : Freed xs count k xs'
-  pub belongs : (end : ℕ) → let r : Triple = (first, end, period) in
-      insert_run r (triples count xs) ≡ take k (triples count xs) ++ r ∷ drop k (triples count xs)
+-- a run whose three entries fit into 16 bits
+pub record RunFits (r : Run) : Type 0 where
+  pub first_fits : r.first ≤ most_letters
+  pub end_fits : r.end ≤ most_letters
+  pub period-fits : r.period ≤ most_letters
+
+-- a run to be put among the first ones
+pub record InsertAsked (xs : List ℕ) (count : ℕ) (r : Run) : Type 0 where
+  pub room : InsertRoom xs count
+  pub fits : RunFits r

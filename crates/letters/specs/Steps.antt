@@ -1,5 +1,7 @@
 -- What the comparison's inner functions ask and promise. No call's promise cites this file.
-use Rattle.std.specs.Prelude.{◌≡◌, List, ℕ, ◌≤◌, ◌<◌, min, length, ℤ, pos, negsuc}
+use Rattle.std.specs.Prelude.{◌≡◌, Option, Some, None, List, ℕ, ◌<◌, min, length, ℤ, pos, negsuc}
+use Rattle.std.specs.declared.cmp.Ordering.{Ordering}
+use Rattle.std.specs.declared.cmp.Ordering.TheVariants.{Less, Equal, Greater}
 use Rattle.words.specs.Words.{common_length_of}
 use Rattle.theory.specs.Orders.CommonLength.{Agree}
 use Rattle.theory.specs.Orders.WordSigns.{SignOfWords}
@@ -11,16 +13,22 @@ pub record PartedAt (x y : List ℕ) (l : ℕ) : Type 0 where
   pub left : l < length x
   pub right : l < length y
 
--- the sign of two words that part at the letters a and b
-pub data LetterSign (a b : ℕ) : ℤ → Type 0 where
-  before : b ≤ a → LetterSign a b (negsuc 0)
-  after : a < b → LetterSign a b (pos 1)
+-- where two words part, if they do; else one is a prefix of the other
+abbrev pub Parting : List ℕ → List ℕ → Option ℕ → Type 0
+Parting x y (Some l) = PartedAt x y l
+Parting x y None = Agree x y (min (length x) (length y))
+
+-- the sign as the paper's number
+abbrev pub sign_of : Ordering → ℤ
+sign_of Less = negsuc 0
+sign_of Equal = pos 0
+sign_of Greater = pos 1
 
 -- the sign of a word of m letters and one of n, of which one is a prefix of the other
-pub data PrefixSign (m n : ℕ) : ℤ → Type 0 where
-  before : m < n → PrefixSign m n (negsuc 0)
-  same : m ≡ n → PrefixSign m n (pos 0)
-  after : n < m → PrefixSign m n (pos 1)
+pub data PrefixSign (m n : ℕ) : Ordering → Type 0 where
+  before : m < n → PrefixSign m n Less
+  same : m ≡ n → PrefixSign m n Equal
+  after : n < m → PrefixSign m n Greater
 
 pub record PrefixOrdered (m n : ℕ) (r : Order) : Type 0 where
   pub sign-is : PrefixSign m n r.sign
@@ -28,5 +36,5 @@ pub record PrefixOrdered (m n : ℕ) (r : Order) : Type 0 where
 
 -- two words compared
 pub record Ordered (x y : List ℕ) (r : Order) : Type 0 where
-  pub sign-is : SignOfWords x y r.sign
+  pub sign-is : SignOfWords x y (sign_of r.sign)
   pub common-is : r.common ≡ common_length_of x y

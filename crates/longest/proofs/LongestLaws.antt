@@ -9,6 +9,8 @@ use native.Mathlib.Decide.{dec_lt}
 use lib.ListN.{length, take, drop, get_or, set, length-set}
 use lib.Seq.{get_or-set_same, get_or-set_other}
 use lib.Dec.{ltb}
+use mir.Syntax.{w8}
+use mir.Val.{Fits}
 use Rattle.buffers.proofs.PartLaws.{part}
 use Rattle.words.specs.Words.{◌≺◌}
 use Rattle.words.specs.Factorizations.{longest_anti_lyndon}
@@ -23,8 +25,8 @@ use Rattle.theory.specs.Repetitions.TwoOrders.{reversed, longer_entry}
 use Rattle.theory.specs.Repetitions.TwoOrders.{Falls, smaller, goes_on, UpTo, reversed-length, reversed-at}
 use Rattle.theory.proofs.Repetitions.TwoOrders.{entry-one, longest-inside, longest-falls, longest-rises}
 use Rattle.common.specs.Orders.{most_byte, in_order, Precedes}
-use Rattle.longest.specs.Longest.{LongestAfter, LongestFilled}
-use Rattle.common.proofs.InOrderLaws.{in-order-length, in-order-part}
+use Rattle.longest.specs.Longest.{LongestKnown, LongestAfter, LongestFilled}
+use Rattle.common.proofs.InOrderLaws.{bytes, in-order-length, in-order-part}
 
 -- ---- the entry of an order
 
@@ -37,6 +39,11 @@ module _ (w : List ℕ) (b : UpTo most_byte w) (j : ℕ) (l : j < length w) wher
   pub length-other : (natural : Bool) → ¬ Precedes natural (get_or w j 0) (get_or w (j + longer_entry most_byte w j - 1) 0) → 1 ≡ entry_at (in_order natural w) j
   length-other true h = sym ((longest-rises most_byte w b j l).1 (omega arith))
   length-other false h = sym ((longest-falls most_byte w b j l).1 (omega arith))
+
+-- it lies in the word
+pub known-fits : {w longest : List ℕ} {j : ℕ} → LongestKnown w longest j → ((k : ℕ) → Fits w8 (get_or w k 0))
+    → (0 < get_or longest j 0) × (j + get_or longest j 0 ≤ length w)
+known-fits {w} k f = rw k.entry (longest-inside most_byte w (bytes w f) _ k.inside)
 
 -- ---- the order in which the letter at i is alone
 

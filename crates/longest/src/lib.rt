@@ -9,28 +9,30 @@ ghost use Rattle.theory.specs.Repetitions.TwoOrders.{longer_entry};
 ghost use Rattle.common.specs.Orders.{most_byte, in_order};
 ghost use Rattle.longest.specs.Longest.{LongestKnown, LongestAfter, NextAfter, LongestRoom, LongestFilled};
 
+use common::{Inverse, LetterOrder, Natural, comes_before};
+
 // The length of the longest Lyndon word at j in an order: a word of more than one letter begins with a letter that
 // comes before its last one.
-fn length_in(natural: bool, word: &[u8], longest: &[u16], j: usize) -> usize
+fn length_in<O: LetterOrder>(word: &[u8], longest: &[u16], j: usize) -> usize
     requires { LongestKnown word.now longest.now j }
-    ensures { result ≡ entry_at (in_order natural word.now) j }
+    ensures { result ≡ entry_at (in_order O.natural word.now) j }
 {
     let n = longest[j] as usize;
-    if common::precedes(natural, word[j], word[j + n - 1]) {
+    if O::precedes(word[j], word[j + n - 1]) {
         return n;
     }
     1
 }
 
 // The length of the longest Lyndon word at i in an order.
-fn merged_length(natural: bool, word: &[u8], longest: &[u16], i: usize) -> usize
+fn merged_length<O: LetterOrder>(word: &[u8], longest: &[u16], i: usize) -> usize
     requires { LongestAfter word.now longest.now i }
-    ensures { result ≡ entry_at (in_order natural word.now) i }
+    ensures { result ≡ entry_at (in_order O.natural word.now) i }
 {
     let mut j = i + 1;
     while j < word.len() {
-        let n = length_in(natural, word, longest, j);
-        if !common::comes_before(natural, &word[i..j], &word[j..j + n]) {
+        let n = length_in::<O>(word, longest, j);
+        if !comes_before::<O>(&word[i..j], &word[j..j + n]) {
             return j - i;
         }
         j += n;
@@ -61,8 +63,11 @@ fn longest_at(word: &[u8], longest: &[u16], i: usize) -> usize
     if i + 1 == word.len() {
         return 1;
     }
-    let natural = natural_at(word, longest, i);
-    merged_length(natural, word, longest, i)
+    if natural_at(word, longest, i) {
+        merged_length::<Natural>(word, longest, i)
+    } else {
+        merged_length::<Inverse>(word, longest, i)
+    }
 }
 
 /// Writes the length of the longest Lyndon word at each place into the first entries of `longest`.
@@ -70,9 +75,7 @@ pub fn fill_longest(word: &[u8], longest: &mut [u16])
     requires { LongestRoom word.now longest.old }
     ensures { LongestFilled word.now longest.new }
 {
-    let mut i = word.len();
-    while 0 < i {
-        i -= 1;
+    for i in (0..word.len()).rev() {
         let n = longest_at(word, longest, i);
         longest[i] = n as u16;
     }

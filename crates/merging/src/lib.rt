@@ -9,7 +9,7 @@ ghost use Rattle.theory.specs.Orders.Decisions.{Decides};
 ghost use Rattle.buffers.specs.Buffers.{written};
 ghost use Rattle.merging.specs.Steps.{TableRoom, NextKnown, MergedTo, SeparatorAlone, LetterJoins};
 
-use common::comes_before;
+use common::{Inverse, comes_before};
 
 // Whether a letter joins the word v after it, which is a single letter if it begins with a separator. A separator joins
 // none; it is looked for only where the first letters differ, since two of them do not join anyhow.
@@ -17,7 +17,7 @@ fn letter_joins(a: u8, v: &[u8]) -> bool
     requires { SeparatorAlone v.now }
     ensures { Decides (LetterJoins a v.now) result }
 {
-    if v.len() == 0 {
+    if v.is_empty() {
         return false;
     }
     let b = v[0];
@@ -28,7 +28,8 @@ fn letter_joins(a: u8, v: &[u8]) -> bool
 }
 
 // Entry i of the table: the word from i to `from` is anti-Lyndon and begins with no separator, and the words that
-// follow join it as long as they come after it.
+// follow join it as long as they come after it. longest::merged_length joins alike: one function of both would take the
+// lengths by a closure, with a promise about separators that the runs have no need of.
 fn longest_from(word: &[u8], lengths: &[u16], i: usize, from: usize) -> usize
     requires { MergedTo word.now lengths.now i from }
     ensures { result ≡ get_or (separated_table word.now) i 0 }
@@ -36,7 +37,7 @@ fn longest_from(word: &[u8], lengths: &[u16], i: usize, from: usize) -> usize
     let mut j = from;
     while j < word.len() {
         let n = lengths[j] as usize;
-        if !comes_before(false, &word[i..j], &word[j..j + n]) {
+        if !comes_before::<Inverse>(&word[i..j], &word[j..j + n]) {
             return j - i;
         }
         j += n;
@@ -66,10 +67,8 @@ pub fn fill_table(word: &[u8], lengths: &mut [u16])
     requires { TableRoom word.now lengths.old }
     ensures { lengths.new ≡ written (separated_table word.now) lengths.old }
 {
-    let mut i = word.len();
     let mut n: usize = 0;
-    while 0 < i {
-        i -= 1;
+    for i in (0..word.len()).rev() {
         n = longest_at(word, lengths, i, n);
         lengths[i] = n as u16;
     }

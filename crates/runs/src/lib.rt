@@ -2,25 +2,24 @@
 //! long as it can be, with its smallest period.
 #![tactic(auto)]
 
-ghost use Rattle.std.specs.Prelude.{[]};
-ghost use Rattle.checks.specs.Lines.{record_lines, Accepted};
-ghost use Rattle.runs.specs.Runs.{RunsDone};
-ghost use Rattle.runs.specs.Room.{RoomAsked, RoomChecked};
+ghost use Rattle.std.specs.Prelude.{◌≡◌, []};
+ghost use Rattle.checks.specs.Lines.{record_lines, tried, Accepted};
+ghost use Rattle.runs.specs.Runs.{runs_lines, RunsDone};
+ghost use Rattle.runs.specs.Room.{RoomAsked};
 
 use checks::{Checked, Counted};
-use walking::walk;
 
 // Line 4. There are fewer runs than letters (the "Runs" theorem), so they are counted only for a buffer that is shorter
 // than that.
-fn check_room(word: &[u8], longest: &mut [u16], runs: &mut [u16]) -> Checked
+fn check_room(word: &[u8], longest: &mut [u16], entries: usize) -> Checked
     requires { RoomAsked word.now longest.old }
-    ensures { RoomChecked word.now runs.old result runs.new }
+    ensures { result ≡ tried (runs_lines word.now entries) }
 {
-    if 3 * (word.len() - 1) <= runs.len() {
+    if 3 * (word.len() - 1) <= entries {
         return Checked::Passed;
     }
-    let count = walk(word, longest, runs, false);
-    checks::check_result(runs.len(), 3 * count)
+    let count = walking::count_runs(word, longest);
+    checks::check_result(entries, 3 * count)
 }
 
 /// The runs of an accepted record: the call's own line, 4, and its work.
@@ -29,11 +28,11 @@ pub fn list_runs(word: &[u8], runs: &mut [u16]) -> Counted
     ensures { RunsDone [] word.now runs.old result runs.new }
 {
     let mut longest = [0u16; checks::MOST];
-    let room = check_room(word, &mut longest, runs);
+    let room = check_room(word, &mut longest, runs.len());
     let Checked::Passed = room else {
         return Counted::Refused(room.number());
     };
-    let count = walk(word, &mut longest, runs, true);
+    let count = walking::list_runs(word, &mut longest, runs);
     Counted::Count(count)
 }
 

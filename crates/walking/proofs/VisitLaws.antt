@@ -1,7 +1,7 @@
 -- Runs that are counted and, where they are to be stored, put into the list of the buffer: none (list_same), one (visit-counts, visit-stores), more after
 -- others (list-after). What is found at a place fits (run_fits). The loop over the places of a stretch (Visiting).
 use mathlib.Core.Path.{◌≡◌, refl, ap, sym, ◌∙◌}
-use mathlib.Core.Bool.{Bool, true, false, true≢false}
+use mathlib.Core.Bool.{Bool, true}
 use mathlib.Core.List.Memᴰ
 use mathlib.Core.List.{List, [], ◌∷◌, map, map-append}
 use Prim.Native.Nat.{ℕ, ◌+◌, ◌-◌, ◌*◌, ◌≤◌, ◌<◌}
@@ -10,23 +10,21 @@ use lib.ListN.{length, drop, length-append, length-map, take-append-drop}
 use lib.Seq.{length-take-le}
 use Rattle.buffers.specs.Buffers.{written}
 use Rattle.buffers.proofs.BufferLaws.{written_over}
-use Rattle.words.specs.Words.{most_letters}
 use Rattle.words.specs.Runs.{Triple, moved_run}
 use Rattle.theory.specs.RunStatements.{IsRun}
 use Rattle.theory.specs.Repetitions.TwoOrders.{UpTo}
 use Rattle.theory.specs.Repetitions.Found.{found_at, found_up_to}
 use Rattle.theory.specs.Repetitions.Found.{found-next, found-more}
 use Rattle.theory.proofs.Repetitions.Serving.{found-serves}
-use Rattle.theory.specs.Repetitions.Insertion.{insert_run, sort_into}
+use Rattle.theory.specs.Repetitions.Insertion.{sort_into}
 use Rattle.theory.specs.Repetitions.Insertion.{sort-append, sort-one, sort-none, sort-length, sort-in-order}
 use Rattle.inserting.specs.Entries.{entries_of_runs}
-use Rattle.inserting.specs.Inserting.{triples, InsertRoom}
+use Rattle.inserting.specs.Inserting.{triple, triples, RunFits, InsertRoom}
+use Rattle.inserting.specs.declared.Run.{Run}
 use Rattle.inserting.proofs.InsertLaws.{entries-length, triples-length, triples-written, entries-triples}
 use Rattle.common.specs.Orders.{most_byte}
-use Rattle.found.specs.declared.Found.{Found}
-use Rattle.found.specs.declared.Found.TheVariants.{None, Run}
-use Rattle.found.specs.Found.{found_runs, PlaceKnown}
-use Rattle.walking.specs.Walking.{Listed, all_found, VisitRoom, Visited}
+use Rattle.found.specs.Found.{PlaceKnown}
+use Rattle.walking.specs.Walking.{Listed, Put, all_found, VisitRoom, Visited}
 
 -- ---- lists
 
@@ -57,30 +55,19 @@ module _ {rs : List Triple} {out₀ out : List ℕ} {store : Bool} {count : ℕ}
 
 -- ---- a place
 
--- what no run stands for
-pub none_told : (f : Found) → ((first end period : ℕ) → f ≡ Run first end period → ⊥) → found_runs f ≡ []
-none_told None h = refl
-none_told (Run first end period) h = absurd (h first end period refl)
-
--- a run's entries, from a place of the record on
-pub record EntriesFit (from first end period : ℕ) : Type 0 where
-  pub first_fits : from + first ≤ most_letters
-  pub end_fits : from + end ≤ most_letters
-  pub period-fits : period ≤ most_letters
-
 module _ {w longest out : List ℕ} {from count : ℕ} {store : Bool} {found : List Triple} (v : VisitRoom w longest from out count store found) where
   pub place-known : {i : ℕ} → 0 < i → i < length w → PlaceKnown w longest i
   place-known {i} o l = record { after = o; known = record { inside = l; room = v.filled.room; entry = v.filled.entries i l } }
 
   -- a run that is found lies in the word
-  pub run_fits : {i first end period : ℕ} → UpTo most_byte w → 0 < i → i < length w → (first, end, period) ∷ [] ≡ found_at most_byte w i
-      → EntriesFit from first end period
-  run_fits {i} {first} {end} {period} b o l e =
-      let run : IsRun w (first, end, period) = (found-serves most_byte w b (first, end, period) i o l (rw (← e) (Memᴰ.head refl))).0 in
+  pub run_fits : {i : ℕ} {run : Run} → UpTo most_byte w → 0 < i → i < length w → triple run ∷ [] ≡ found_at most_byte w i
+      → RunFits (record { first = from + run.first; end = from + run.end; period = run.period })
+  run_fits {i} {run} b o l e =
+      let r : IsRun w (triple run) = (found-serves most_byte w b (triple run) i o l (rw (← e) (Memᴰ.head refl))).0 in
       record {
-        first_fits = omega (arith, v.short, run.inside, run.twice);
-        end_fits = omega (arith, v.short, run.inside);
-        period-fits = omega (arith, v.short, run.inside, run.twice);
+        first_fits = omega (arith, v.short, r.inside, r.twice);
+        end_fits = omega (arith, v.short, r.inside);
+        period-fits = omega (arith, v.short, r.inside, r.twice);
       }
 
   pub visit-none : [] ≡ found → Visited from out count store found count out
@@ -90,18 +77,15 @@ module _ {w longest out : List ℕ} {from count : ℕ} {store : Bool} {found : L
     one_more : count + 1 ≡ length (sort_into (triples count out) (map (moved_run from) found))
     one_more = rw (← e) (omega (arith, sort-length (triples count out) (moved_run from r ∷ []), triples-length count out))
 
-    pub visit-counts : store ≡ false → Visited from out count store found (count + 1) out
-    visit-counts n = record { counted = one_more; stored = λ s. absurd (true≢false (sym s ∙ n)); kept = λ s. refl }
-
     pub visit-room : store ≡ true → InsertRoom out count
     visit-room s = record { room = omega (arith, v.room s, ap length e); in_order = v.in_order s }
 
-    pub visit-stores : {out' : List ℕ} → store ≡ true → out' ≡ written (entries_of_runs (insert_run (moved_run from r) (triples count out))) out
+    pub visit-puts : {run : Run} {out' : List ℕ} → triple run ≡ moved_run from r → Put store out count run out'
         → Visited from out count store found (count + 1) out'
-    visit-stores s z = record {
+    visit-puts z p = record {
       counted = one_more;
-      stored = λ t. rw (← e) (rw sort-one z);
-      kept = λ n. absurd (true≢false (sym s ∙ n));
+      stored = λ t. rw (← e) (rw (sort-one, ← z) (p.stored t));
+      kept = p.kept;
     }
 
 -- ---- the places of a stretch

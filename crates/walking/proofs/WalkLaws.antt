@@ -1,4 +1,4 @@
--- Where a stretch ends (stretch-begins, stretch-turn), and the loop over the stretches (Walking): the runs of those before a place are listed, those of the
+-- The loop over the stretches (Walking): the runs of those before a place are listed, those of the
 -- rest follow them. What is found in a stretch gets behind them, since it begins later (found-behind).
 use mathlib.Core.Path.{◌≡◌, refl, ap, sym, ◌∙◌}
 use mathlib.Core.Logic.{◌⊎◌, inl, inr}
@@ -25,20 +25,8 @@ use Rattle.theory.specs.Repetitions.Insertion.{sort_into, InOrder}
 use Rattle.theory.specs.Repetitions.Insertion.{sorted-behind, sorted-moved, sort-in-order}
 use Rattle.common.specs.Orders.{most_byte}
 use Rattle.longest.specs.Longest.{LongestRoom, LongestFilled}
-use Rattle.walking.specs.Walking.{Listed, all_found, VisitRoom, Visited, UnmarkedTo, StretchEnds, WalkRoom, Walked}
+use Rattle.walking.specs.Walking.{Listed, all_found, VisitRoom, Visited, StretchEnds, WalkRoom, Walked}
 use Rattle.walking.proofs.VisitLaws.{list-stands, list-after}
-
--- ---- where a stretch ends
-
-pub stretch-begins : (w : List ℕ) (from : ℕ) → from < length w → UnmarkedTo w from from
-stretch-begins w from l = record { after = omega arith; inside = omega arith; unmarked = λ t a b. absurd (omega arith) }
-
-pub stretch-turn : {w : List ℕ} {from e : ℕ} → UnmarkedTo w from e → e < length w → ¬ (get_or w e 0 ≡ separator) → UnmarkedTo w from (e + 1)
-stretch-turn {w} {from} {e} g l n = record { after = omega (arith, g.after); inside = omega arith; unmarked = λ t a b. go t a b (dec_lt t e) }
-  where
-    go : (t : ℕ) → from ≤ t → t < e + 1 → Dec (t < e) → ¬ (get_or w t 0 ≡ separator)
-    go t a b (yes h) = g.unmarked t a h
-    go t a b (no h) = let z : t ≡ e = omega arith in rw z n
 
 -- ---- the runs from a place on
 

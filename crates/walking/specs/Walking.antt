@@ -5,9 +5,10 @@ use Rattle.words.specs.Words.{most_letters}
 use Rattle.words.specs.Separated.{separator}
 use Rattle.words.specs.Runs.{Triple, moved_run, separated_runs}
 use Rattle.theory.specs.Repetitions.Found.{found_up_to}
-use Rattle.theory.specs.Repetitions.Insertion.{InOrder, sort_into}
+use Rattle.theory.specs.Repetitions.Insertion.{InOrder, insert_run, sort_into}
 use Rattle.inserting.specs.Entries.{entries_of_runs}
-use Rattle.inserting.specs.Inserting.{triples}
+use Rattle.inserting.specs.Inserting.{triple, triples, InsertAsked}
+use Rattle.inserting.specs.declared.Run.{Run}
 use Rattle.common.specs.Orders.{most_byte}
 use Rattle.longest.specs.Longest.{LongestFilled}
 
@@ -17,6 +18,15 @@ use Rattle.longest.specs.Longest.{LongestFilled}
 pub record Listed (rs : List Triple) (out : List ℕ) (store : Bool) (r : ℕ) (out' : List ℕ) : Type 0 where
   pub counted : r ≡ length rs
   pub stored : store ≡ true → out' ≡ written (entries_of_runs rs) out
+  pub kept : store ≡ false → out' ≡ out
+
+-- a run may be put into the list, where it is to be stored
+abbrev pub PutAsked : Bool → List ℕ → ℕ → Run → Type 0
+PutAsked store out count run = store ≡ true → InsertAsked out count run
+
+-- it is put there
+pub record Put (store : Bool) (out : List ℕ) (count : ℕ) (run : Run) (out' : List ℕ) : Type 0 where
+  pub stored : store ≡ true → out' ≡ written (entries_of_runs (insert_run (triple run) (triples count out))) out
   pub kept : store ≡ false → out' ≡ out
 
 -- what is found at the places of a word
@@ -55,3 +65,16 @@ pub record WalkRoom (w longest out : List ℕ) (store : Bool) : Type 0 where
 
 abbrev pub Walked : List ℕ → List ℕ → Bool → ℕ → List ℕ → Type 0
 Walked w out store r out' = Listed (separated_runs w) out store r out'
+
+-- what the calls ask and promise: to count the runs of a record, and to list them
+pub record CountRoom (w longest : List ℕ) : Type 0 where
+  pub short : length w ≤ most_letters
+  pub work : most_letters ≤ length longest
+
+pub record ListRoom (w longest out : List ℕ) : Type 0 where
+  pub count : CountRoom w longest
+  pub room : 3 * length (separated_runs w) ≤ length out
+
+pub record RunsListed (w out : List ℕ) (r : ℕ) (out' : List ℕ) : Type 0 where
+  pub counted : r ≡ length (separated_runs w)
+  pub listed : out' ≡ written (entries_of_runs (separated_runs w)) out

@@ -1,63 +1,59 @@
-//! All places of all stretches: the runs are counted, and put into the list in the result buffer where they are to be
-//! stored.
+//! All places of all stretches: the runs are counted, or put into the list in the result buffer too.
 #![tactic(auto)]
 
-ghost use Rattle.std.specs.Prelude.{◌<◌, length};
+mod sink; // Sink, Count, List: whether the runs are counted or listed
+
+ghost use Rattle.std.specs.Prelude.{◌≡◌, ◌<◌, length, true, false};
+ghost use Rattle.words.specs.Runs.{separated_runs};
 ghost use Rattle.theory.specs.Repetitions.Found.{found_at};
 ghost use Rattle.common.specs.Orders.{most_byte};
-ghost use Rattle.walking.specs.Walking.{all_found, VisitRoom, Visited, StretchEnds, WalkRoom, Walked};
+ghost use Rattle.walking.specs.Walking.{all_found, VisitRoom, Visited, StretchEnds, WalkRoom, Walked, CountRoom, ListRoom, RunsListed};
 
-use found::{Found, run_at};
-use inserting::insert;
+use found::run_at;
+use inserting::Run;
 use longest::fill_longest;
+use sink::{Count, List, Sink};
 
 // One place of the stretch that begins at `from`: answers the number of runs, which was `count` before.
-fn visit_place(
+fn visit_place<S: Sink>(
     word: &[u8],
     longest: &[u16],
     i: usize,
     from: usize,
     runs: &mut [u16],
     count: usize,
-    store: bool,
 ) -> usize
-    requires { (0 < i) × (i < length word.now) × VisitRoom word.now longest.now from runs.old count store (found_at most_byte word.now i) }
-    ensures { Visited from runs.old count store (found_at most_byte word.now i) result runs.new }
+    requires { (0 < i) × (i < length word.now) × VisitRoom word.now longest.now from runs.old count S.stores (found_at most_byte word.now i) }
+    ensures { Visited from runs.old count S.stores (found_at most_byte word.now i) result runs.new }
 {
-    let found = run_at(word, longest, i);
-    let Found::Run { first, end, period } = found else {
-        return count;
-    };
-    if !store {
-        return count + 1;
+    match run_at(word, longest, i) {
+        None => count,
+        Some(found) => {
+            let run = Run {
+                first: from + found.first,
+                end: from + found.end,
+                period: found.period,
+            };
+            S::put(runs, count, run);
+            count + 1
+        }
     }
-    insert(
-        runs,
-        count,
-        (from + first) as u16,
-        (from + end) as u16,
-        period as u16,
-    );
-    count + 1
 }
 
 // All places of that stretch.
-fn visit(
+fn visit<S: Sink>(
     word: &[u8],
     longest: &[u16],
     from: usize,
     runs: &mut [u16],
     count: usize,
-    store: bool,
 ) -> usize
-    requires { VisitRoom word.now longest.now from runs.old count store (all_found word.now) }
-    ensures { Visited from runs.old count store (all_found word.now) result runs.new }
+    requires { VisitRoom word.now longest.now from runs.old count S.stores (all_found word.now) }
+    ensures { Visited from runs.old count S.stores (all_found word.now) result runs.new }
 {
     let mut total = count;
-    let mut i: usize = 1;
-    while i < word.len() {
-        total = visit_place(word, longest, i, from, runs, total, store);
-        i += 1;
+    for i in 1..word.len() {
+        total = visit_place::<S>(word, longest, i, from, runs, total);
     }
     total
 }
@@ -67,20 +63,18 @@ fn stretch_end(word: &[u8], from: usize) -> usize
     requires { from < length word.now }
     ensures { StretchEnds word.now from result }
 {
-    let mut end = from;
-    while end < word.len() {
+    for end in from..word.len() {
         if word[end] == words::SEPARATOR {
             return end;
         }
-        end += 1;
     }
-    end
+    word.len()
 }
 
-/// Counts the runs of a record, stretch by stretch, and lists them where `store` says so.
-pub fn walk(word: &[u8], longest: &mut [u16], runs: &mut [u16], store: bool) -> usize
-    requires { WalkRoom word.now longest.old runs.old store }
-    ensures { Walked word.now runs.old store result runs.new }
+// The runs of a record, stretch by stretch.
+fn walk<S: Sink>(word: &[u8], longest: &mut [u16], runs: &mut [u16]) -> usize
+    requires { WalkRoom word.now longest.old runs.old S.stores }
+    ensures { Walked word.now runs.old S.stores result runs.new }
 {
     let mut count: usize = 0;
     let mut from: usize = 0;
@@ -88,8 +82,24 @@ pub fn walk(word: &[u8], longest: &mut [u16], runs: &mut [u16], store: bool) -> 
         let end = stretch_end(word, from);
         let stretch = &word[from..end];
         fill_longest(stretch, longest);
-        count = visit(stretch, longest, from, runs, count, store);
+        count = visit::<S>(stretch, longest, from, runs, count);
         from = end + 1;
     }
     count
+}
+
+/// The number of runs of a record.
+pub fn count_runs(word: &[u8], longest: &mut [u16]) -> usize
+    requires { CountRoom word.now longest.old }
+    ensures { result ≡ length (separated_runs word.now) }
+{
+    walk::<Count>(word, longest, &mut [])
+}
+
+/// Writes the runs of a record into the first entries of `runs`, and answers their number.
+pub fn list_runs(word: &[u8], longest: &mut [u16], runs: &mut [u16]) -> usize
+    requires { ListRoom word.now longest.old runs.old }
+    ensures { RunsListed word.now runs.old result runs.new }
+{
+    walk::<List>(word, longest, runs)
 }

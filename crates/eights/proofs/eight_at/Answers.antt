@@ -1,12 +1,9 @@
--- Of two halves, each as long as its type holds.
-use Rattle.eights.proofs.EightLaws.{little-halves}
+-- The eight letters are bytes, and their number is the library's.
+use mathlib.Core.Path.{◌∙◌}
+use Rattle.eights.proofs.EightLaws.{little-from}
 use Rattle.eights.proofs.eight_at.Goals as goal
 
 pub returns : goal.returns
 returns c =
     let pre = c.requires in
-    record {
-      remain = pre;
-      bytes = c.four_at-2.ensures.bytes;
-      number_is = rw (c.four_at.ensures.number_is, c.four_at-2.ensures.number_is) (little-halves _ _ 4 4 pre);
-    }
+    record { remain = pre; bytes = λ t. (c.type_inv.x t).fits; number_is = c.from_le_bytes.ensures ∙ little-from _ _ pre }

@@ -4,6 +4,3 @@ use Rattle.longest.proofs.fill_longest.Given as goal
 
 abbrev pub invariant-loop-i : goal.invariant-loop-i
 invariant-loop-i l = LongestFrom l.word l.initial.longest l.longest l.i
-
-abbrev pub decreases-loop-i : goal.decreases-loop-i
-decreases-loop-i l = l.i

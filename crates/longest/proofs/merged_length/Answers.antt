@@ -6,33 +6,33 @@ use Rattle.longest.proofs.LongestLaws.{turn-fits, turn-joins, turn-stops, turns-
 use Rattle.longest.proofs.merged_length.Goals as goal
 
 pub slice_bounds-comes_before-end-in-loop-j : goal.slice_bounds-comes_before-end-in-loop-j
-slice_bounds-comes_before-end-in-loop-j c =
-    let fits = turn-fits c.args.natural c.args.word.now c.loop-j.invariant c.length_in-n.ensures c.loop-j-test.true in
+slice_bounds-comes_before-end-in-loop-j g c =
+    let fits = turn-fits g.O.LetterOrder.natural c.args.word.now c.loop-j.invariant c.length_in-n.ensures c.loop-j-test.true in
     omega (arith, fits.1)
 
 pub comes_before-requires : goal.comes_before-requires
-comes_before-requires c =
-    let fits = turn-fits c.args.natural c.args.word.now c.loop-j.invariant c.length_in-n.ensures c.loop-j-test.true in
+comes_before-requires g c =
+    let fits = turn-fits g.O.LetterOrder.natural c.args.word.now c.loop-j.invariant c.length_in-n.ensures c.loop-j-test.true in
     record { left = search rules; right = omega (arith, fits.0, fits.1) }
 
 pub returns-then-not-comes_before : goal.returns-then-not-comes_before
-returns-then-not-comes_before c =
+returns-then-not-comes_before g c =
     let a = c.args in
-    turn-stops a.natural a.word.now c.loop-j.invariant c.length_in-n.ensures c.loop-j-test.true
+    turn-stops g.O.LetterOrder.natural a.word.now c.loop-j.invariant c.length_in-n.ensures c.loop-j-test.true
     (decides-false c.comes_before.ensures c.if-not-comes_before.true)
 
 pub loop-j-smaller : goal.loop-j-smaller
-loop-j-smaller c =
-    let fits = turn-fits c.args.natural c.args.word.now c.loop-j.invariant c.length_in-n.ensures c.loop-j-test.true in
+loop-j-smaller g c =
+    let fits = turn-fits g.O.LetterOrder.natural c.args.word.now c.loop-j.invariant c.length_in-n.ensures c.loop-j-test.true in
     omega (arith, fits.0, fits.1)
 
 pub loop-j-preserved : goal.loop-j-preserved
-loop-j-preserved c =
+loop-j-preserved g c =
     let a = c.args in
-    turn-joins a.natural a.word.now c.loop-j.invariant c.length_in-n.ensures c.loop-j-test.true
+    turn-joins g.O.LetterOrder.natural a.word.now c.loop-j.invariant c.length_in-n.ensures c.loop-j-test.true
     (decides-true c.comes_before.ensures c.if-not-comes_before.false)
 
 pub returns : goal.returns
-returns c =
+returns g c =
     let a = c.args in
-    turns-end a.natural a.word.now c.loop-j.invariant c.loop-j-test.false
+    turns-end g.O.LetterOrder.natural a.word.now c.loop-j.invariant c.loop-j-test.false

@@ -6,7 +6,7 @@ use Rattle.common.specs.Orders.{in_order}
 use Rattle.longest.proofs.merged_length.Given as goal
 
 abbrev pub invariant-loop-j : goal.invariant-loop-j
-invariant-loop-j l = Merged (in_order l.natural l.word) l.i l.j
+invariant-loop-j g l = Merged (in_order g.O.LetterOrder.natural l.word) l.i l.j
 
 abbrev pub decreases-loop-j : goal.decreases-loop-j
-decreases-loop-j l = length l.word - l.j
+decreases-loop-j g l = length l.word - l.j

@@ -1,19 +1,12 @@
 -- A next letter that differs decides; else the word there does.
 use native.Mathlib.Omega.{arith}
-use mathlib.Core.List.{List}
-use mir.Syntax.{w8}
-use mir.Val.{Fits}
-use Prim.Native.Nat.{ℕ, ◌+◌, ◌≤◌}
+use Prim.Native.Nat.{◌+◌, ◌≤◌}
 use lib.ListN.{length, get_or}
-use Rattle.theory.specs.Repetitions.TwoOrders.{UpTo}
 use Rattle.theory.proofs.Repetitions.TwoOrders.{longest-inside}
 use Rattle.common.specs.Orders.{most_byte}
+use Rattle.common.proofs.InOrderLaws.{bytes}
 use Rattle.longest.proofs.LongestLaws.{next-alone, same-alone}
 use Rattle.longest.proofs.natural_at.Goals as goal
-
--- a word of bytes
-bytes : (w : List ℕ) → ((k : ℕ) → Fits w8 (get_or w k 0)) → UpTo most_byte w
-bytes w f k = omega (arith, (f k).fits)
 
 pub returns-then-b-a : goal.returns-then-b-a
 returns-then-b-a c =

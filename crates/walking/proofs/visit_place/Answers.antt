@@ -1,47 +1,40 @@
--- No run is found, or one: it is counted, and put into the list if it is to be stored.
-use mathlib.Core.Path.{◌≡◌, sym, ◌∙◌}
+-- No run is found, or one: it is put where it goes, and counted.
+use mathlib.Core.Path.{◌≡◌, refl}
 use mathlib.Core.List.{List, [], ◌∷◌}
-use Prim.Native.Nat.{ℕ, ◌<◌}
+use Prim.Native.Nat.{ℕ, ◌+◌, ◌<◌}
 use native.Mathlib.Omega.{arith}
 use lib.ListN.{length, get_or}
 use mir.Syntax.{w8}
 use mir.Val.{Fits}
 use mathlib.Core.Bool.{Bool}
 use Rattle.words.specs.Runs.{Triple}
+use Rattle.inserting.specs.declared.Run.{Run}
+use Rattle.inserting.specs.Inserting.{triple, RunFits}
 use Rattle.theory.specs.Repetitions.Found.{found_at}
 use Rattle.common.specs.Orders.{most_byte}
+use Rattle.common.proofs.InOrderLaws.{bytes}
 use Rattle.walking.specs.Walking.{VisitRoom}
-use Rattle.walking.proofs.VisitLaws.{EntriesFit, none_told, run_fits, visit-none, visit-counts, visit-stores}
+use Rattle.walking.proofs.VisitLaws.{run_fits, visit-none, visit-room, visit-puts}
 use Rattle.walking.proofs.visit_place.Goals as goal
 
--- the entries of the run that was found
-fits-at-place : {w longest out : List ℕ} {i from count first end period : ℕ} {store : Bool}
+-- the run that was found, in the record's places
+placed : {w longest out : List ℕ} {i from count : ℕ} {store : Bool} (run : Run)
     → (0 < i) × (i < length w) × VisitRoom w longest from out count store (found_at most_byte w i) → ((k : ℕ) → Fits w8 (get_or w k 0))
-    → ◌≡◌ {A = List Triple} ((first, end, period) ∷ []) (found_at most_byte w i) → EntriesFit from first end period
-fits-at-place pre f e = run_fits pre.2 (λ k. omega (arith, (f k).fits)) pre.0 pre.1 e
+    → ◌≡◌ {A = List Triple} (triple run ∷ []) (found_at most_byte w i)
+    → RunFits (record { first = from + run.first; end = from + run.end; period = run.period })
+placed {w} run pre f e = run_fits pre.2 {run = run} (bytes w f) pre.0 pre.1 e
 
-pub returns-in_default : goal.returns-in_default
-returns-in_default c =
-    visit-none c.requires.2
-    (sym (none_told c.run_at-found.result c.in_default.not-Run) ∙ c.run_at-found.ensures)
+pub returns-in-None : goal.returns-in-None
+returns-in-None g c = visit-none c.requires.2 c.in-None.ensures
 
-pub returns-then-not-store : goal.returns-then-not-store
-returns-then-not-store c = visit-counts c.requires.2 c.in-Run.ensures c.if-not-store.true
+pub overflow_add-run : goal.overflow_add-run
+overflow_add-run g c = record { fits = omega (arith, (placed c.in-Some.found c.requires c.type_inv.word c.in-Some.ensures).first_fits) }
 
-pub overflow_add-from : goal.overflow_add-from
-overflow_add-from c = omega (arith, fits-at-place c.requires c.type_inv.word c.in-Run.ensures)
+pub overflow_add-run-in-Some : goal.overflow_add-run-in-Some
+overflow_add-run-in-Some g c = record { fits = omega (arith, (placed c.in-Some.found c.requires c.type_inv.word c.in-Some.ensures).end_fits) }
 
-pub overflow_cast-from : goal.overflow_cast-from
-overflow_cast-from c = omega (arith, fits-at-place c.requires c.type_inv.word c.in-Run.ensures)
+pub put-requires : goal.put-requires
+put-requires g c s = record { room = visit-room c.requires.2 c.in-Some.ensures s; fits = placed c.in-Some.found c.requires c.type_inv.word c.in-Some.ensures }
 
-pub overflow_add-from-2 : goal.overflow_add-from-2
-overflow_add-from-2 c = omega (arith, fits-at-place c.requires c.type_inv.word c.in-Run.ensures)
-
-pub overflow_cast-from-2 : goal.overflow_cast-from-2
-overflow_cast-from-2 c = omega (arith, fits-at-place c.requires c.type_inv.word c.in-Run.ensures)
-
-pub overflow_cast-period : goal.overflow_cast-period
-overflow_cast-period c = omega (arith, fits-at-place c.requires c.type_inv.word c.in-Run.ensures)
-
-pub returns : goal.returns
-returns c = visit-stores c.requires.2 c.in-Run.ensures c.if-not-store.false c.insert.ensures
+pub returns-in-Some : goal.returns-in-Some
+returns-in-Some g c = visit-puts c.requires.2 c.in-Some.ensures refl c.put.ensures

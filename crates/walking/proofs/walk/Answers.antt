@@ -1,34 +1,24 @@
 -- The runs of the stretches before `from` are in the list; a turn adds those of the stretch that begins there.
 use mathlib.Core.Path.{refl, ◌∙◌}
-use mathlib.Core.List.{List}
-use mir.Syntax.{w8}
-use mir.Val.{Fits}
-use Prim.Native.Nat.{ℕ}
 use native.Mathlib.Omega.{arith}
-use lib.ListN.{get_or}
-use Rattle.theory.specs.Repetitions.TwoOrders.{UpTo}
-use Rattle.common.specs.Orders.{most_byte}
+use Rattle.common.proofs.InOrderLaws.{bytes}
 use Rattle.walking.proofs.WalkLaws.{walk_begins, walk-asks, walk_turn, walk_ends}
 use Rattle.walking.proofs.walk.Goals as goal
 
--- a word of bytes
-bytes : (w : List ℕ) → ((k : ℕ) → Fits w8 (get_or w k 0)) → UpTo most_byte w
-bytes w f k = omega (arith, (f k).fits)
-
 pub loop-from-init : goal.loop-from-init
-loop-from-init c = (refl, walk_begins _ _ _)
+loop-from-init g c = (refl, walk_begins _ _ _)
 
 pub visit-count-requires : goal.visit-count-requires
-visit-count-requires c =
+visit-count-requires g c =
     let asked = walk-asks c.loop-from.invariant.1 c.stretch_end-end.ensures (bytes _ c.type_inv.word) c.requires c.fill_longest.ensures in
     record { short = omega (arith, asked.short); filled = asked.filled; few = asked.few; room = asked.room; in_order = asked.in_order }
 
 pub loop-from-preserved : goal.loop-from-preserved
-loop-from-preserved c =
+loop-from-preserved g c =
     let inv = c.loop-from.invariant in (
       c.fill_longest.auto.longest ∙ inv.0,
       walk_turn inv.1 c.stretch_end-end.ensures (bytes _ c.type_inv.word) c.visit-count.ensures c.visit-count.auto.runs,
     )
 
 pub returns : goal.returns
-returns c = walk_ends c.loop-from.invariant.1 c.loop-from-test.false
+returns g c = walk_ends c.loop-from.invariant.1 c.loop-from-test.false

@@ -6,7 +6,7 @@ use Rattle.walking.proofs.WalkLaws.{Walking}
 use Rattle.walking.proofs.walk.Given as goal
 
 abbrev pub invariant-loop-from : goal.invariant-loop-from
-invariant-loop-from l = (length l.longest ≡ length l.initial.longest) × Walking l.word l.initial.runs l.runs l.store l.count l.from
+invariant-loop-from g l = (length l.longest ≡ length l.initial.longest) × Walking l.word l.initial.runs l.runs g.S.Sink.stores l.count l.from
 
 abbrev pub decreases-loop-from : goal.decreases-loop-from
-decreases-loop-from l = length l.word - l.from
+decreases-loop-from g l = length l.word - l.from

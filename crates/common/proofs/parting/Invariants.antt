@@ -2,7 +2,7 @@
 use mathlib.Core.Path.{◌≡◌}
 use Prim.Native.Nat.{◌-◌, ◌%◌}
 use Rattle.theory.specs.Orders.CommonLength.{Matched}
-use Rattle.common.proofs.compare_words.Given as goal
+use Rattle.common.proofs.parting.Given as goal
 
 abbrev pub invariant-loop-l : goal.invariant-loop-l
 invariant-loop-l l = Matched l.x l.y l.l × (l.l % 8 ≡ 0)

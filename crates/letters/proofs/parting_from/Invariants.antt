@@ -1,10 +1,6 @@
 -- The letters read so far are equal; it returns where the two differ or one word ends.
-use Prim.Native.Nat.{◌-◌}
 use Rattle.theory.specs.Orders.CommonLength.{Matched}
-use Rattle.letters.proofs.compare_from.Given as goal
+use Rattle.letters.proofs.parting_from.Given as goal
 
 abbrev pub invariant-loop-k : goal.invariant-loop-k
 invariant-loop-k l = Matched l.x l.y l.k
-
-abbrev pub decreases-loop-k : goal.decreases-loop-k
-decreases-loop-k l = l.most - l.k

@@ -1,8 +1,0 @@
--- The letters read so far are equal; it returns where the two differ or one word ends.
-use native.Mathlib.Omega.{arith}
-use Rattle.letters.proofs.OrderLaws.{prefix-ordered}
-use Rattle.letters.proofs.compare_from.Goals as goal
-
-pub returns : goal.returns
-returns c =
-    prefix-ordered c.loop-k.invariant (omega (arith, c.shorter-most.ensures, c.loop-k-test.false)) c.prefix_order.ensures
