@@ -3,4 +3,5 @@
 
 mod suffixes; // compare_suffixes: the call; compare_within: the same in a record that was accepted
 
-pub use suffixes::{Comparison, compare_suffixes, compare_within};
+pub use letters::Order;
+pub use suffixes::{compare_suffixes, compare_within};

@@ -7,8 +7,7 @@ use borrow.Author.Tests.{le-ltb}
 use lib.ListN.{length}
 use Rattle.words.specs.Runs.{separated_runs}
 use Rattle.theory.proofs.Stretches.SeparatedRuns.{separated-runs-fewer}
-use Rattle.checks.specs.Lines.{tried}
-use Rattle.checks.specs.declared.Checked.TheVariants.{Passed}
+use Rattle.checks.specs.Lines.{tried, Passed}
 use Rattle.checks.proofs.LineLaws.{all_pass}
 use Rattle.walking.specs.Walking.{CountRoom}
 use Rattle.runs.specs.Runs.{runs_lines}

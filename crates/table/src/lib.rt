@@ -3,32 +3,26 @@
 #![tactic(auto)]
 
 ghost use Rattle.std.specs.Prelude.{[]};
-ghost use Rattle.checks.specs.Lines.{record_lines, Accepted};
+ghost use Rattle.checks.specs.Lines.{record_lines};
 ghost use Rattle.table.specs.Table.{Tabled};
 
-use checks::{Checked, Counted};
+use checks::{Record, Refusal};
 
 /// The start table of an accepted record: the call's own line, 4, and its work.
-pub fn tabulate(word: &[u8], lengths: &mut [u16]) -> Counted
-    requires { Accepted word.now }
-    ensures { Tabled [] word.now lengths.old result lengths.new }
+pub fn tabulate(record: Record, lengths: &mut [u16]) -> Result<usize, Refusal>
+    ensures { Tabled [] record.entry.letters.now lengths.old result lengths.new }
 {
-    let room = checks::check_result(lengths.len(), word.len());
-    let Checked::Passed = room else {
-        return Counted::Refused(room.number());
-    };
+    let word = record.letters;
+    checks::check_result(lengths.len(), word.len())?;
     merging::fill_table(word, lengths);
-    Counted::Count(word.len())
+    Ok(word.len())
 }
 
 /// The start table: writes the Lyndon table of each stretch between separators, with 1 for a separator, into the first
 /// entries of `lengths`, as many as the word has letters, and answers their number. Refusals 1, 2, 4.
-pub fn lyndon_table(word: &[u8], lengths: &mut [u16]) -> Counted
+pub fn lyndon_table(word: &[u8], lengths: &mut [u16]) -> Result<usize, Refusal>
     ensures { Tabled (record_lines word.now) word.now lengths.old result lengths.new }
 {
-    let recorded = checks::check_record(word);
-    let Checked::Passed = recorded else {
-        return Counted::Refused(recorded.number());
-    };
-    tabulate(word, lengths)
+    let record = Record::admit(word)?;
+    tabulate(record, lengths)
 }

@@ -1,10 +1,10 @@
 -- Refused at the door, or the room's promise past it.
-use Rattle.checks.proofs.LineLaws.{passed, filled-at-door, filled-past-door}
+use mathlib.Core.Path.{sym}
+use Rattle.checks.proofs.LineLaws.{passed-up, filled-at-door, filled-past-door}
 use Rattle.runs.proofs.runs.Goals as goal
 
-pub returns-in_default : goal.returns-in_default
-returns-in_default c = filled-at-door _ _ _ _ _ c.check_record-recorded.ensures.says c.in_default.not-Passed c.number.ensures
+pub returns-in_err-record : goal.returns-in_err-record
+returns-in_err-record c = rw (passed-up _ c.from_residual.ensures.1) (filled-at-door _ _ _ _ _ c.in_err-record.ensures.says)
 
 pub returns : goal.returns
-returns c =
-    filled-past-door _ (passed _ c.check_record-recorded.ensures.says c.in-Passed.is) c.list_runs.ensures
+returns c = filled-past-door _ (sym c.in_ok-record.ensures.says) (rw c.in_ok-record.ensures.same at c.list_runs.ensures)

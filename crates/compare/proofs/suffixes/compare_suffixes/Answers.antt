@@ -1,16 +1,15 @@
 -- Refused at the door, or the room's promise past it.
-use mathlib.Core.Path.{◌∙◌}
+use mathlib.Core.Path.{sym, ◌∙◌}
 use Prim.Native.Nat.{ℕ}
 use Rattle.checks.specs.Answers.{refuses}
-use Rattle.checks.proofs.LineLaws.{passed, past-door, refused-at-door}
+use Rattle.checks.proofs.LineLaws.{passed-up, past-door, refused-at-door}
 use Rattle.compare.proofs.suffixes.compare_suffixes.Goals as goal
 
-pub returns-in_default : goal.returns-in_default
-returns-in_default c =
-    let told = c.check_record-recorded.ensures.says in
-    record { answer = refused-at-door _ _ _ (λ (n : ℕ). refuses n) told c.in_default.not-Passed c.number.ensures }
+pub returns-in_err-record : goal.returns-in_err-record
+returns-in_err-record c =
+    rw (passed-up _ c.from_residual.ensures.1) (record { answer = refused-at-door _ _ _ (λ (n : ℕ). refuses n) c.in_err-record.ensures.says })
 
 pub returns : goal.returns
 returns c =
-    let p = passed _ c.check_record-recorded.ensures.says c.in-Passed.is in
-    record { answer = c.compare_within.ensures.answer ∙ past-door _ _ _ (λ (n : ℕ). refuses n) p }
+    let told = rw c.in_ok-record.ensures.same at c.compare_within.ensures in
+    record { answer = told.answer ∙ past-door _ _ _ (λ (n : ℕ). refuses n) (sym c.in_ok-record.ensures.says) }
