@@ -1,43 +1,19 @@
 -- The places of a batch as replies: the turns of the loop (Replied), each at a place whose count fits (place-small); after the last one every place is in its
 -- reply (replied-all).
 use mathlib.Core.Path.{◌≡◌, refl, ap, sym, ◌∙◌}
-use mathlib.Core.Bool.{Bool, true, false, ◌&&◌, true≢false}
-use mathlib.Core.Logic.{◌⊎◌, inl, inr}
 use mathlib.Core.List.{List, [], ◌∷◌, ◌++◌, map, map-append, append_assoc}
-use Prim.Native.Nat.{ℕ, zero, suc, ◌+◌, ◌-◌, ◌≤◌, ◌<◌}
+use Prim.Native.Nat.{ℕ, zero, suc, ◌+◌, ◌-◌, ◌≤◌, ◌<◌, min}
 use native.Mathlib.Numerals.{add-one}
 use native.Mathlib.Omega.{arith}
 use lib.ListN.{get_or-map, length, take, get_or, set, replicate, length-append, length-map, length-replicate}
 use lib.Seq.{take-suc, set_at, length-take-le}
-use lib.Dec.{ltb}
-use borrow.Author.Tests.{ltb-true, ltb-false}
-use Rattle.std.specs.Prelude.{Ok}
+use Rattle.std.specs.Prelude.{Result, Ok}
 use Rattle.conditions.specs.Conditions.{most_records}
 use Rattle.checks.specs.Answers.{Says, gives, count_says}
 use Rattle.checks.specs.declared.refusals.Refusal.{Refusal}
-use Rattle.batch.specs.declared.Batch.{Batch}
-use Rattle.batch.specs.declared.Place.{Place}
 use Rattle.batch.specs.Batch.{says_of, places_of}
 use Rattle.numbers.specs.declared.Reply.{Reply}
 use Rattle.numbers.specs.Numbers.{numbers_or, count_numbers, reply_of, SmallCount, SmallBatch}
-
--- ---- the loop's test, which is a conjunction
-
-pub both_below : (i n : ℕ) → (ltb i most_records && ltb i n) ≡ true → (i < most_records) × (i < n)
-both_below i n h = go (ltb i most_records) (ltb i n) refl refl h
-  where
-    go : (a b : Bool) → ltb i most_records ≡ a → ltb i n ≡ b → (a && b) ≡ true → (i < most_records) × (i < n)
-    go true true x y h = (ltb-true i most_records x, ltb-true i n y)
-    go true false x y h = absurd (true≢false (sym h))
-    go false b x y h = absurd (true≢false (sym h))
-
-either-past : (i n : ℕ) → (ltb i most_records && ltb i n) ≡ false → (most_records ≤ i) ⊎ (n ≤ i)
-either-past i n h = go (ltb i most_records) (ltb i n) refl refl h
-  where
-    go : (a b : Bool) → ltb i most_records ≡ a → ltb i n ≡ b → (a && b) ≡ false → (most_records ≤ i) ⊎ (n ≤ i)
-    go true true x y h = absurd (true≢false h)
-    go true false x y h = inr (ltb-false i n y)
-    go false b x y h = inl (ltb-false i most_records x)
 
 -- ---- what the places say of some answers, and of blank ones past them
 
@@ -59,8 +35,8 @@ placed-small (a ∷ answers) n zero h = h
 placed-small (a ∷ answers) n (suc i) h = placed-small answers n i h
 
 -- what the place at i says
-says_at : (places : List Place) (i : ℕ) → count_says (get_or places i (record { answer = Ok 0 })).answer ≡ get_or (says_of places) i blank
-says_at places i = sym (get_or-map (λ (p : Place). count_says p.answer) places i (record { answer = Ok 0 }))
+says_at : (places : List (Result ℕ Refusal)) (i : ℕ) → count_says (get_or places i (Ok 0)) ≡ get_or (says_of places) i blank
+says_at places i = sym (get_or-map count_says places i (Ok 0))
 
 blank-past : (ps : List (Says ℕ)) (m i : ℕ) → length ps ≤ i → i ≤ length ps + m
     → take i (ps ++ replicate m blank) ++ replicate (length ps + m - i) blank ≡ ps ++ replicate m blank
@@ -83,26 +59,26 @@ placed_past answers i p q =
 -- ---- the loop
 
 -- what the places before i say is in their replies, and all others are at 0
-pub record Replied (places : List Place) (replies : List Reply) (i : ℕ) : Type 0 where
+pub record Replied (places : List (Result ℕ Refusal)) (replies : List Reply) (i : ℕ) : Type 0 where
   pub front : replies ≡ map reply_of (take i (says_of places) ++ replicate (most_records - i) blank)
   pub inside : i ≤ most_records
 
-pub replied-starts : (places : List Place) → Replied places (map reply_of (places_of [])) 0
+pub replied-starts : (places : List (Result ℕ Refusal)) → Replied places (map reply_of (places_of [])) 0
 replied-starts places = record { front = refl; inside = omega arith }
 
-module _ {b : Batch} {records : ℕ} (s : SmallBatch b records) where
-  pub place-small : (i : ℕ) → SmallCount (count_says (get_or b.places i (record { answer = Ok 0 })).answer)
-  place-small i = rw (says_at b.places i, s.placed) (placed-small s.answers (most_records - length s.answers) i (s.small i))
+module _ {places : List (Result ℕ Refusal)} {records : ℕ} (s : SmallBatch (Ok places) records) where
+  pub place-small : (i : ℕ) → SmallCount (count_says (get_or places i (Ok 0)))
+  place-small i = rw (says_at places i, s.placed) (placed-small s.answers (most_records - length s.answers) i (s.small i))
 
-  pub replied-on : {replies : List Reply} {i : ℕ} (x : Reply) → Replied b.places replies i → i < most_records
-      → (x.refusal, x.count) ≡ count_numbers (get_or b.places i (record { answer = Ok 0 })).answer → Replied b.places (set replies i x) (i + 1)
+  pub replied-on : {replies : List Reply} {i : ℕ} (x : Reply) → Replied places replies i → i < most_records
+      → (x.refusal, x.count) ≡ count_numbers (get_or places i (Ok 0)) → Replied places (set replies i x) (i + 1)
   replied-on {replies} {i} x g l e =
-      let said = says_of b.places in
+      let said = says_of places in
       let full : length said ≡ most_records = ap length s.placed ∙ placed-length s.answers s.few in
       let done = take i said in
       let rest = replicate (most_records - suc i) blank in
       let m : most_records - i ≡ suc (most_records - suc i) = omega arith in
-      let told : (x.refusal, x.count) ≡ numbers_or 0 (get_or said i blank) = e ∙ ap (numbers_or 0) (says_at b.places i) in
+      let told : (x.refusal, x.count) ≡ numbers_or 0 (get_or said i blank) = e ∙ ap (numbers_or 0) (says_at places i) in
       record {
         front = rw (add-one i)
             (ap (λ (t : List Reply). set t i x) g.front
@@ -118,14 +94,9 @@ module _ {b : Batch} {records : ℕ} (s : SmallBatch b records) where
       }
 
   -- past the last record, or past the last place, the replies at 0 are right
-  pub replied-all : {replies : List Reply} {i : ℕ} → Replied b.places replies i → (ltb i most_records && ltb i records) ≡ false
-      → replies ≡ map reply_of (says_of b.places)
-  replied-all {i = i} g h =
-      let all : take i (says_of b.places) ++ replicate (most_records - i) blank ≡ says_of b.places =
-      rw s.placed (placed_past s.answers i (past (either-past i records h)) g.inside)
+  pub replied-all : {replies : List Reply} {i : ℕ} → Replied places replies i → min records most_records ≤ i → replies ≡ map reply_of (says_of places)
+  replied-all {i = i} g past =
+      let all : take i (says_of places) ++ replicate (most_records - i) blank ≡ says_of places =
+      rw s.placed (placed_past s.answers i (omega (arith, s.few, s.within, past)) g.inside)
       in
       g.front ∙ ap (map reply_of) all
-    where
-      past : (most_records ≤ i) ⊎ (records ≤ i) → length s.answers ≤ i
-      past (inl x) = omega (arith, s.few, x)
-      past (inr x) = omega (arith, s.within, x)

@@ -3,16 +3,14 @@ use Rattle.std.specs.Prelude.{◌≡◌, List, [], map, ℕ, ◌≤◌, ◌<◌,
 use Rattle.conditions.specs.Conditions.{most_records}
 use Rattle.checks.specs.Answers.{checked_number, Says, gives, checked, values_or, count_says}
 use Rattle.checks.specs.declared.refusals.Refusal.{Refusal}
-use Rattle.extension.specs.declared.Extension.{Extension}
-use Rattle.extension.specs.Extension.{test_says}
-use Rattle.icfl_breaks.specs.declared.CountedBreaks.{CountedBreaks}
-use Rattle.icfl_breaks.specs.IcflBreaks.{breaks_says}
-use Rattle.batch.specs.declared.Batch.{Batch}
-use Rattle.batch.specs.Batch.{batch_says, places_of}
-use Rattle.compare.specs.declared.suffixes.Comparison.{Comparison}
-use Rattle.compare.specs.Compare.{comparison_says}
+use Rattle.extension.specs.Extension.{TestAnswer, test_says}
+use Rattle.icfl_breaks.specs.IcflBreaks.{BreaksAnswer, breaks_says}
+use Rattle.batch.specs.Batch.{BatchAnswer, batch_says, places_of}
+use Rattle.compare.specs.Compare.{ComparisonAnswer, comparison_says}
+use Rattle.summary.specs.Summary.{SummaryAnswer, summary_says, no_summary}
 use Rattle.numbers.specs.declared.Reply.{Reply}
 use Rattle.numbers.specs.declared.Replies.{Replies}
+use Rattle.numbers.specs.declared.SummaryReply.{SummaryReply}
 
 -- what is said, as numbers: the refusal's, 0 for a result, and beside it the values, `none` with a refusal
 abbrev pub numbers_or : {A : Type 0} → A → Says A → ℕ × A
@@ -23,15 +21,15 @@ abbrev pub count_numbers : Result ℕ Refusal → ℕ × ℕ
 count_numbers a = numbers_or 0 (count_says a)
 
 -- the refusal, L, |p| and |r|
-abbrev pub test_numbers : Extension → ℕ × ℕ × ℕ × ℕ
+abbrev pub test_numbers : TestAnswer → ℕ × ℕ × ℕ × ℕ
 test_numbers a = let (number, values) = numbers_or [] (test_says a) in (number, get_or values 0 0, get_or values 1 0, get_or values 2 0)
 
 -- the refusal, the number of factors, that of breaks
-abbrev pub breaks_numbers : CountedBreaks → ℕ × ℕ × ℕ
+abbrev pub breaks_numbers : BreaksAnswer → ℕ × ℕ × ℕ
 breaks_numbers a = let (number, (factors, breaks)) = numbers_or (0, 0) (breaks_says a) in (number, factors, breaks)
 
 -- the refusal, the sign, how far the two agree
-abbrev pub comparison_numbers : Comparison → ℕ × ℤ × ℕ
+abbrev pub comparison_numbers : ComparisonAnswer → ℕ × ℤ × ℕ
 comparison_numbers a = let (number, (sign, common)) = numbers_or (pos 0, 0) (comparison_says a) in (number, sign, common)
 
 -- the same two numbers as of a count, for each place of a batch
@@ -39,8 +37,14 @@ abbrev pub reply_of : Says ℕ → Reply
 reply_of said = let (number, count) = numbers_or 0 said in record { refusal = number; count = count }
 
 -- the refusal, and a reply for each place
-abbrev pub batch_numbers : Batch → Replies
+abbrev pub batch_numbers : BatchAnswer → Replies
 batch_numbers b = let (number, places) = batch_says b in record { refusal = number; replies = map reply_of places }
+
+-- the refusal, and the summary's numbers
+abbrev pub summary_numbers : SummaryAnswer → SummaryReply
+summary_numbers a =
+    let (number, s) = numbers_or no_summary (summary_says a) in
+    record { refusal = number; count = s.count; longest = s.longest; from = s.from; bands = s.bands }
 
 -- ---- what the functions ask: that the numbers fit
 
@@ -61,7 +65,7 @@ abbrev pub SmallComparison : Says (ℤ × ℕ) → Type 0
 SmallComparison said = Small (values_or (pos 0, 0) said).1
 
 -- the places say what at most so many answers do, each with a count that fits
-pub record SmallBatch (b : Batch) (records : ℕ) : Type 0 where
+pub record SmallBatch (b : BatchAnswer) (records : ℕ) : Type 0 where
   pub answers : List (Says ℕ)
   pub placed : (batch_says b).1 ≡ places_of answers
   pub small : (i : ℕ) → SmallCount (get_or answers i (gives 0))

@@ -7,14 +7,15 @@ ghost use Rattle.checks.specs.Answers.{count_says};
 ghost use Rattle.extension.specs.Extension.{test_says};
 ghost use Rattle.icfl_breaks.specs.IcflBreaks.{breaks_says};
 ghost use Rattle.compare.specs.Compare.{comparison_says};
-ghost use Rattle.numbers.specs.Numbers.{count_numbers, test_numbers, breaks_numbers, comparison_numbers, batch_numbers};
+ghost use Rattle.numbers.specs.Numbers.{count_numbers, test_numbers, breaks_numbers, comparison_numbers, batch_numbers, summary_numbers};
 ghost use Rattle.numbers.specs.Numbers.{SmallCount, SmallTest, SmallBreaks, SmallComparison, SmallBatch};
 
-use batch::{Batch, MOST_RECORDS};
-use checks::Counted;
-use compare::Comparison;
+use batch::{Answers, MOST_RECORDS};
+use checks::Refusal;
+use compare::Order;
 use extension::Extension;
-use icfl_breaks::CountedBreaks;
+use icfl_breaks::Counts;
+use summary::Summary;
 
 /// A count or a refusal, as two numbers.
 #[repr(C)]
@@ -26,31 +27,42 @@ pub struct Reply {
 
 /// What a batch comes to: the refusal's number, and a reply for each place.
 #[repr(C)]
-#[derive(Drop)]
+#[derive(Clone, Copy, Drop)]
 pub struct Replies {
     pub refusal: u8,
     pub replies: [Reply; MOST_RECORDS],
 }
 
+/// A summary or a refusal: the refusal's number, and the summary's numbers.
+#[repr(C)]
+#[derive(Clone, Copy, Drop)]
+pub struct SummaryReply {
+    pub refusal: u8,
+    pub count: u16,
+    pub longest: u16,
+    pub from: u16,
+    pub bands: [u16; 13],
+}
+
 // A count or a refusal.
-fn numbers_of(answer: Counted) -> Reply
+fn numbers_of(answer: Result<usize, Refusal>) -> Reply
     requires { SmallCount (count_says answer) }
     ensures { (result.refusal, result.count) ≡ count_numbers answer }
 {
     match answer {
-        Counted::Count(n) => Reply {
+        Ok(n) => Reply {
             refusal: 0,
             count: n as u16,
         },
-        Counted::Refused(e) => Reply {
-            refusal: e,
+        Err(e) => Reply {
+            refusal: u8::from(e),
             count: 0,
         },
     }
 }
 
 /// Leaves the count, and gives the refusal's number.
-pub fn tell_count(answer: Counted, count: &mut u16) -> u8
+pub fn tell_count(answer: Result<usize, Refusal>, count: &mut u16) -> u8
     requires { SmallCount (count_says answer) }
     ensures { (result, count.new) ≡ count_numbers answer }
 {
@@ -60,7 +72,12 @@ pub fn tell_count(answer: Counted, count: &mut u16) -> u8
 }
 
 /// Leaves L, |p| and |r|, all 0 for an inverse Lyndon word, and gives the refusal's number.
-pub fn tell_test(answer: Extension, failing: &mut u16, prefix: &mut u16, border: &mut u16) -> u8
+pub fn tell_test(
+    answer: Result<Option<Extension>, Refusal>,
+    failing: &mut u16,
+    prefix: &mut u16,
+    border: &mut u16,
+) -> u8
     requires { SmallTest (test_says answer) }
     ensures { (result, failing.new, prefix.new, border.new) ≡ test_numbers answer }
 {
@@ -68,78 +85,104 @@ pub fn tell_test(answer: Extension, failing: &mut u16, prefix: &mut u16, border:
     *prefix = 0;
     *border = 0;
     match answer {
-        Extension::InverseLyndon => 0,
-        Extension::Failing {
-            failing: l,
-            prefix: p,
-            border: r,
-        } => {
-            *failing = l as u16;
-            *prefix = p as u16;
-            *border = r as u16;
+        Ok(None) => 0,
+        Ok(Some(found)) => {
+            *failing = found.failing as u16;
+            *prefix = found.prefix as u16;
+            *border = found.border as u16;
             0
         }
-        Extension::Refused(e) => e,
+        Err(e) => u8::from(e),
     }
 }
 
 /// Leaves the number of factors and that of breaks, and gives the refusal's number.
-pub fn tell_breaks(answer: CountedBreaks, count: &mut u16, break_count: &mut u16) -> u8
+pub fn tell_breaks(answer: Result<Counts, Refusal>, count: &mut u16, break_count: &mut u16) -> u8
     requires { SmallBreaks (breaks_says answer) }
     ensures { (result, count.new, break_count.new) ≡ breaks_numbers answer }
 {
     match answer {
-        CountedBreaks::Counts { factors, breaks } => {
-            *count = factors as u16;
-            *break_count = breaks as u16;
+        Ok(counts) => {
+            *count = counts.factors as u16;
+            *break_count = counts.breaks as u16;
             0
         }
-        CountedBreaks::Refused(e) => {
+        Err(e) => {
             *count = 0;
             *break_count = 0;
-            e
+            u8::from(e)
         }
     }
 }
 
 /// Leaves the sign and how far the two agree, and gives the refusal's number.
-pub fn tell_comparison(answer: Comparison, sign: &mut i8, common: &mut u16) -> u8
+pub fn tell_comparison(answer: Result<Order, Refusal>, sign: &mut i8, common: &mut u16) -> u8
     requires { SmallComparison (comparison_says answer) }
     ensures { (result, sign.new, common.new) ≡ comparison_numbers answer }
 {
     match answer {
-        Comparison::Order { sign: s, common: n } => {
-            *sign = s;
-            *common = n as u16;
+        Ok(order) => {
+            *sign = order.sign as i8;
+            *common = order.common as u16;
             0
         }
-        Comparison::Refused(e) => {
+        Err(e) => {
             *sign = 0;
             *common = 0;
-            e
+            u8::from(e)
         }
     }
 }
 
-/// A batch of so many records: the refusal's number, and a reply for each place.
-pub fn numbers_of_batch(answers: Batch, records: usize) -> Replies
-    requires { SmallBatch answers records }
-    ensures { result ≡ batch_numbers answers }
+// What stands beside a refusal.
+const NO_SUMMARY: Summary = Summary {
+    count: 0,
+    longest: 0,
+    from: 0,
+    bands: [0; 13],
+};
+
+/// A summary or a refusal.
+pub fn numbers_of_summary(answer: Result<Summary, Refusal>) -> SummaryReply
+    ensures { result ≡ summary_numbers answer }
+{
+    let (refusal, summary) = match answer {
+        Ok(summary) => (0, summary),
+        Err(e) => (u8::from(e), NO_SUMMARY),
+    };
+    let bands = summary.bands;
+    SummaryReply {
+        refusal,
+        count: summary.count,
+        longest: summary.longest,
+        from: summary.from,
+        bands,
+    }
+}
+
+/// A batch of so many records: the refusal's number, and a reply for each place. Past the last record both of its
+/// numbers are 0.
+pub fn numbers_of_batch(answer: Result<Answers, Refusal>, records: usize) -> Replies
+    requires { SmallBatch answer records }
+    ensures { result ≡ batch_numbers answer }
 {
     let mut replies = [Reply {
         refusal: 0,
         count: 0,
     }; MOST_RECORDS];
-    let mut i: usize = 0;
-    // Past the last record both hold 0.
-    while (i < MOST_RECORDS) & (i < records) {
-        let place = answers.places[i];
-        let answer = place.answer;
-        replies[i] = numbers_of(answer);
-        i += 1;
-    }
-    Replies {
-        refusal: answers.refusal,
-        replies,
+    match answer {
+        Ok(places) => {
+            for i in 0..records.min(MOST_RECORDS) {
+                replies[i] = numbers_of(places[i]);
+            }
+            Replies {
+                refusal: 0,
+                replies,
+            }
+        }
+        Err(refusal) => Replies {
+            refusal: u8::from(refusal),
+            replies,
+        },
     }
 }

@@ -1,35 +1,30 @@
--- Each turn puts the answer for one record into its reply; past the last record both hold 0.
+-- Each turn puts the answer for one record into its reply; past the last record both numbers are 0.
 use mathlib.Core.List.{List}
-use mathlib.Core.Path.{ap}
+use mathlib.Core.Path.{ap, sym, ◌∙◌}
 use Prim.Native.Nat.{◌<◌}
 use native.Mathlib.Omega.{arith}
+use Rattle.std.specs.Prelude.{Ok}
 use Rattle.conditions.specs.Conditions.{most_records}
+use Rattle.numbers.specs.Numbers.{batch_numbers, SmallBatch}
 use Rattle.numbers.specs.declared.Reply.{Reply}
-use Rattle.numbers.proofs.ReplyLaws.{both_below, replied-starts, place-small, replied-on, replied-all}
+use Rattle.numbers.specs.declared.Replies.{Replies}
+use Rattle.numbers.proofs.ReplyLaws.{place-small, replied-on, replied-all}
 use Rattle.numbers.proofs.numbers_of_batch.Goals as goal
+use Rattle.numbers.proofs.numbers_of_batch.Goals.{In-Ok}
 
-pub loop-i-init : goal.loop-i-init
-loop-i-init c = replied-starts _
-
-pub bounds-answers-i : goal.bounds-answers-i
-bounds-answers-i c = (both_below _ _ c.loop-i-test.true).0
+small-at : (c : In-Ok) → SmallBatch (Ok c.in-Ok.places) c.args.records
+small-at c = rw c.in-Ok.is at c.requires
 
 pub numbers_of-requires : goal.numbers_of-requires
-numbers_of-requires c = place-small c.requires _
-
-pub bounds-replies-i : goal.bounds-replies-i
-bounds-replies-i c = (both_below _ _ c.loop-i-test.true).0
-
-pub loop-i-smaller : goal.loop-i-smaller
-loop-i-smaller c =
-    let inside : c.loop-i.i < most_records = (both_below _ _ c.loop-i-test.true).0 in
-    omega (arith, inside)
+numbers_of-requires c = place-small (small-at (goal.at.numbers_of-requires c).In-Ok) _
 
 pub loop-i-preserved : goal.loop-i-preserved
 loop-i-preserved c =
-    replied-on c.requires c.numbers_of.result c.loop-i.invariant (both_below _ _ c.loop-i-test.true).0 c.numbers_of.ensures
+    let inside : c.loop-i.i < most_records = omega (arith, c.loop-i-test.true, c.min-i-end.ensures) in
+    replied-on (small-at (goal.at.loop-i-preserved c).In-Ok) c.numbers_of.result c.loop-i.invariant inside c.numbers_of.ensures
 
-pub returns : goal.returns
-returns c =
-    ap (λ (t : List Reply). record { refusal = c.args.answers.refusal; replies = t })
-    (replied-all c.requires c.loop-i.invariant c.loop-i-test.false)
+pub returns-after-loop-i : goal.returns-after-loop-i
+returns-after-loop-i c =
+    let all = replied-all (small-at (goal.at.returns-after-loop-i c).In-Ok) c.loop-i.invariant (omega (arith, c.loop-i-test.false, c.min-i-end.ensures)) in
+    let told : List Reply → Replies = λ t. record { refusal = 0; replies = t } in
+    ap told all ∙ sym (ap batch_numbers c.in-Ok.is)
