@@ -16,7 +16,7 @@ pub fn limited(number: usize) -> u16 {
 }
 
 /// A list of numbers.
-#[derive(Clone, Copy)]
+#[derive(Drop)]
 pub struct List {
     entries: [u16; BREAK_ENTRIES],
     count: usize,

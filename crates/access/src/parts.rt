@@ -23,15 +23,18 @@ pub fn part_count(pairs: &[u16], k: usize) -> usize {
 
 /// The greatest length of a part, 0 where there is none.
 pub fn longest(pairs: &[u16]) -> usize {
-    let lengths = (0..pairs.len() / 2).map(|k| part_length(pairs, k));
-    lengths.max().unwrap_or(0)
+    (0..pairs.len() / 2)
+        .map(|k| part_length(pairs, k))
+        .max()
+        .unwrap_or(0)
 }
 
 /// Where the latest part of that size begins: the first one that is met from the right.
 pub fn latest(pairs: &[u16], size: usize) -> Option<usize> {
-    let mut latest_first = (0..pairs.len() / 2).rev();
-    let k = latest_first.find(|k| part_length(pairs, *k) == size)?;
-    Some(part_start(pairs, k))
+    (0..pairs.len() / 2)
+        .rev()
+        .find(|k| part_length(pairs, *k) == size)
+        .map(|k| part_start(pairs, k))
 }
 
 // How many binary digits a length has.

@@ -54,54 +54,35 @@ fn write_record(group: Group, i: usize, room: &mut [u8], run: &mut Run) -> usize
     }
 }
 
-// Cases of a call that goes by pairs, and is lent no buffers.
-fn try_by_pairs(call: Call, many: usize, word: &[u8], pairs: &[u16], run: &mut Run) {
-    try_cases(
-        Case {
-            call,
-            word,
-            list: pairs,
-            breaks: &[],
-        },
-        many,
-        run,
-    );
-}
-
 // What goes by the pieces or by the strict pieces: the reader and the summary.
 fn on_parts(word: &[u8], pairs: &[u16], run: &mut Run) {
-    try_by_pairs(Call::Part, pairs.len() / 2, word, pairs, run);
-    try_by_pairs(Call::Summary, 1, word, pairs, run);
+    try_cases(
+        Case::by_pairs(Call::Part, word, pairs),
+        pairs.len() / 2,
+        run,
+    );
+    try_cases(Case::by_pairs(Call::Summary, word, pairs), 1, run);
 }
 
 // What goes by the pieces: the comparison too, which has 8 ranges of its own and 4 of whole pieces.
 fn on_pieces(word: &[u8], pairs: &[u16], run: &mut Run) {
     on_parts(word, pairs, run);
-    try_by_pairs(Call::Compare, 12, word, pairs, run);
-    try_by_pairs(Call::Common, 4, word, pairs, run);
+    try_cases(Case::by_pairs(Call::Compare, word, pairs), 12, run);
+    try_cases(Case::by_pairs(Call::Common, word, pairs), 4, run);
 }
 
 // A call that is lent buffers, and what goes by the parts that it gives: of the strict pieces the list of their ends is
 // paired first.
 fn on_call(call: Call, word: &[u8], run: &mut Run) {
     let found = naive::answer::<Faster>(call, word);
-    let (list, breaks) = (found.list.as_slice(), found.breaks.as_slice());
-    try_cases(
-        Case {
-            call,
-            word,
-            list,
-            breaks,
-        },
-        1,
-        run,
-    );
+    let case = Case::lent(call, word, &found);
+    try_cases(case, 1, run);
     match call {
         Call::Strict => {
-            let pairs = pair_with_ones(list);
+            let pairs = pair_with_ones(case.list);
             on_parts(word, pairs.as_slice(), run);
         }
-        Call::Pieces => on_pieces(word, list, run),
+        Call::Pieces => on_pieces(word, case.list, run),
         _ => {}
     }
 }
@@ -122,17 +103,7 @@ fn on_record(word: &[u8], run: &mut Run) {
 // The first cases of a call at the boundaries of its refusals.
 fn at_limits(call: Call, many: usize, word: &[u8], run: &mut Run) {
     let found = naive::answer::<Faster>(call, word);
-    let (list, breaks) = (found.list.as_slice(), found.breaks.as_slice());
-    try_limits(
-        Case {
-            call,
-            word,
-            list,
-            breaks,
-        },
-        many,
-        run,
-    );
+    try_limits(Case::lent(call, word, &found), many, run);
 }
 
 // The calls that are lent buffers, at the boundaries of their refusals.
@@ -149,7 +120,7 @@ fn on_word(group: Group, word: &[u8], run: &mut Run) {
     match group {
         Group::Lent => on_lent(word, run),
         Group::Ranges => at_limits(Call::Compare, RANGES, word, run),
-        Group::Differences => try_by_pairs(Call::Common, WORDS, word, &[], run),
+        Group::Differences => try_cases(Case::by_pairs(Call::Common, word, &[]), WORDS, run),
         Group::Lists => {
             at_limits(Call::Part, 5 * LISTS, word, run);
             at_limits(Call::Summary, LISTS, word, run);

@@ -8,18 +8,13 @@ use access::{List, entry, tail};
 
 // The last two entries of a break, where this is left and begins with p r.
 fn last_entries<W: Way>(rest: &[u8], found: Failing) -> [usize; 2] {
-    let Failing {
-        length,
-        prefix,
-        border,
-    } = found;
-    let pieces = W::pieces(tail(rest, prefix));
+    let pieces = W::pieces(tail(rest, found.prefix));
     let first = entry(pieces.as_slice(), 0);
-    if first <= border {
-        [256, border - first]
-    } else {
-        [entry(rest, border), entry(rest, length.saturating_sub(1))]
+    if first <= found.border {
+        return [256, found.border - first];
     }
+    let last = found.length.saturating_sub(1);
+    [entry(rest, found.border), entry(rest, last)]
 }
 
 /// The breaks, each rest tested and cut in one of the ways.

@@ -5,7 +5,7 @@ use super::ways::Way;
 use access::{Call, List};
 
 /// What such a call answers: its list, and the breaks beside it.
-#[derive(Clone, Copy)]
+#[derive(Drop)]
 pub struct Answer {
     pub list: List,
     pub breaks: List,
@@ -43,15 +43,8 @@ pub fn needed(call: Call, n: usize, list: usize, breaks: usize) -> Room {
 // The test's answer as a list: empty for an inverse Lyndon word, else L, |p| and |r|.
 fn verdict(failing: Option<Failing>) -> List {
     let mut list = List::new();
-    if let Some(
-        Failing {
-            length,
-            prefix,
-            border,
-        },
-    ) = failing
-    {
-        list.extend(&[length, prefix, border]);
+    if let Some(found) = failing {
+        list.extend(&[found.length, found.prefix, found.border]);
     }
     list
 }

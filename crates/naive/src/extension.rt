@@ -8,24 +8,6 @@ fn is_inverse_lyndon(word: &[u8]) -> bool {
     !word.is_empty() && (1..word.len()).all(|j| tail(word, j) < word)
 }
 
-/// The length of the shortest prefix that is not inverse Lyndon, trying every length.
-pub fn failing_by_trial(word: &[u8]) -> Option<usize> {
-    (1..=word.len()).find(|n| !is_inverse_lyndon(front(word, *n)))
-}
-
-// The length of the shortest prefix that its suffix from j exceeds: up to the first place where the letters differ.
-fn failing_at(word: &[u8], j: usize) -> Option<usize> {
-    let suffix = tail(word, j);
-    let k = agreeing(word, suffix);
-    let exceeds = *word.get(k)? < *suffix.get(k)?;
-    exceeds.then_some(j.saturating_add(k).saturating_add(1))
-}
-
-/// The same length by the suffixes: the least prefix that one of its suffixes exceeds.
-pub fn failing_by_suffixes(word: &[u8]) -> Option<usize> {
-    (1..word.len()).filter_map(|j| failing_at(word, j)).min()
-}
-
 // Whether a word is r a u r b with |r| = k and a less than b.
 fn splits(word: &[u8], k: usize) -> bool {
     match word.split_last() {
@@ -42,8 +24,8 @@ pub struct Failing {
     pub border: usize,
 }
 
-/// The parts of the shortest failing prefix, whose length this is: |r| is the least k with 2k + 2 ≤ n that splits it.
-pub fn parts_of(word: &[u8], length: usize) -> Option<Failing> {
+// Its parts, from its length n: |r| is the least k with 2k + 2 ≤ n that splits it.
+fn parts_of(word: &[u8], length: usize) -> Option<Failing> {
     let failing = front(word, length);
     let border = (0..length / 2).find(|k| splits(failing, *k))?;
     Some(Failing {
@@ -51,4 +33,24 @@ pub fn parts_of(word: &[u8], length: usize) -> Option<Failing> {
         prefix: length.saturating_sub(border.saturating_add(1)),
         border,
     })
+}
+
+/// The shortest prefix that is not inverse Lyndon, trying every length.
+pub fn failing_by_trial(word: &[u8]) -> Option<Failing> {
+    let length = (1..=word.len()).find(|n| !is_inverse_lyndon(front(word, *n)))?;
+    parts_of(word, length)
+}
+
+// The length of the shortest prefix that its suffix from j exceeds: up to the first place where the letters differ.
+fn failing_at(word: &[u8], j: usize) -> Option<usize> {
+    let suffix = tail(word, j);
+    let k = agreeing(word, suffix);
+    let exceeds = *word.get(k)? < *suffix.get(k)?;
+    exceeds.then_some(j.saturating_add(k).saturating_add(1))
+}
+
+/// The same by the suffixes: the shortest prefix that one of its suffixes exceeds.
+pub fn failing_by_suffixes(word: &[u8]) -> Option<Failing> {
+    let length = (1..word.len()).filter_map(|j| failing_at(word, j)).min()?;
+    parts_of(word, length)
 }

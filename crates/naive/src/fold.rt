@@ -5,8 +5,8 @@ use access::{List, entry, part};
 
 // Whether x is less than y at a letter that both have.
 fn loses(x: &[u8], y: &[u8]) -> bool {
-    let mut letters = x.iter().zip(y);
-    letters
+    x.iter()
+        .zip(y)
         .find(|(a, b)| **a != **b)
         .is_some_and(|(a, b)| *a < *b)
 }

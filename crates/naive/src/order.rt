@@ -51,9 +51,10 @@ pub fn compare_letters(x: &[u8], y: &[u8]) -> Compared {
 
 /// The longest common prefix of two words, tried from the longest down.
 pub fn common(x: &[u8], y: &[u8]) -> usize {
-    let mut longest_first = (1..=y.len()).rev();
-    let longest = longest_first.find(|n| x.starts_with(front(y, *n)));
-    longest.unwrap_or(0)
+    (1..=y.len())
+        .rev()
+        .find(|n| x.starts_with(front(y, *n)))
+        .unwrap_or(0)
 }
 
 /// The comparison of two words by their longest common prefix.

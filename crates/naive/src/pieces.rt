@@ -1,19 +1,16 @@
 //! The piece cut by its recursive definition, for every suffix of the word from the shortest on.
 use super::cutting::cut_by;
-use super::extension::{failing_by_suffixes, parts_of};
+use super::extension::failing_by_suffixes;
 use access::{List, entry, tail};
 
 // The length of the first piece of a word; `firsts` has that of each proper suffix, by its length.
 fn first_piece(word: &[u8], firsts: &[u16]) -> usize {
-    let failing = failing_by_suffixes(word).and_then(|length| parts_of(word, length));
-    match failing {
-        None => word.len(),
-        Some(found) => {
-            let next = entry(firsts, tail(word, found.prefix).len());
-            let joined = if next <= found.border { next } else { 0 };
-            found.prefix.saturating_add(joined)
-        }
-    }
+    let Some(found) = failing_by_suffixes(word) else {
+        return word.len();
+    };
+    let next = entry(firsts, tail(word, found.prefix).len());
+    let joined = if next <= found.border { next } else { 0 };
+    found.prefix.saturating_add(joined)
 }
 
 // The length of the first piece of every suffix, the empty one's first.

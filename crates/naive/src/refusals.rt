@@ -20,15 +20,10 @@ pub fn lent_refusal(call: Call, word: &[u8], needed: Room, lent: Room) -> Option
 
 /// The comparison.
 pub fn range_refusal(n: usize, asked: TwoStarts) -> Option<u8> {
-    let TwoStarts {
-        first,
-        end,
-        start,
-        other,
-    } = asked;
-    let inside = (first..end).contains(&start) && (first..end).contains(&other);
+    let range = asked.first..asked.end;
+    let inside = range.contains(&asked.start) && range.contains(&asked.other);
     record_lines(n)
-        .or((end <= first || n < end).then_some(5))
+        .or((range.is_empty() || n < asked.end).then_some(5))
         .or((!inside).then_some(6))
 }
 

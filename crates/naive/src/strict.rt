@@ -10,9 +10,10 @@ fn is_anti_lyndon(word: &[u8]) -> bool {
 
 // The length of the longest anti-Lyndon prefix.
 fn longest_anti_lyndon(word: &[u8]) -> usize {
-    let mut longest_first = (1..=word.len()).rev();
-    let longest = longest_first.find(|n| is_anti_lyndon(front(word, *n)));
-    longest.unwrap_or(0)
+    (1..=word.len())
+        .rev()
+        .find(|n| is_anti_lyndon(front(word, *n)))
+        .unwrap_or(0)
 }
 
 /// The ends of the strict cut: the longest anti-Lyndon prefix, then that of what follows.

@@ -1,5 +1,5 @@
 //! The two ways to answer the calls on a word without marks: by the definitions, which take cubic time, and faster.
-use super::extension::{Failing, failing_by_suffixes, failing_by_trial, parts_of};
+use super::extension::{Failing, failing_by_suffixes, failing_by_trial};
 use super::fold::pieces_by_fold;
 use super::pieces::pieces_by_definition;
 use super::strict::{starts_by_longest, strict_by_longest};
@@ -26,7 +26,7 @@ pub struct Defined;
 
 impl Way for Defined {
     fn failing(word: &[u8]) -> Option<Failing> {
-        parts_of(word, failing_by_trial(word)?)
+        failing_by_trial(word)
     }
 
     fn pieces(word: &[u8]) -> List {
@@ -47,7 +47,7 @@ pub struct Faster;
 
 impl Way for Faster {
     fn failing(word: &[u8]) -> Option<Failing> {
-        parts_of(word, failing_by_suffixes(word)?)
+        failing_by_suffixes(word)
     }
 
     fn pieces(word: &[u8]) -> List {
