@@ -78,7 +78,8 @@ fn print_room(out: &impl Print) -> io::Result<()> {
     let mut four = [0u16; 4];
     let mut three = [0u16; 3];
     print_cut(out, "H with 4 entries", b"cbabacbac", &mut four)?;
-    print_cut(out, "\nH with 3 entries", b"cbabacbac", &mut three)?;
+    println!(out)?;
+    print_cut(out, "H with 3 entries", b"cbabacbac", &mut three)?;
     println!(out)
 }
 

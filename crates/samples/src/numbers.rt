@@ -43,11 +43,8 @@ fn list_of_ends(n: usize, number: usize) -> List {
     };
     let mut list = List::new();
     for place in 0..n {
-        list.push(if place == raised {
-            place.saturating_add(2)
-        } else {
-            place + 1
-        });
+        let step = if place == raised { 2 } else { 1 };
+        list.push(place.saturating_add(step));
     }
     list
 }

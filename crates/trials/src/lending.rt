@@ -42,23 +42,6 @@ fn unbroken(answer: Counted) -> CountedBreaks {
     }
 }
 
-// The call.
-fn call_with(
-    call: Call,
-    word: &[u8],
-    work: &mut [u16],
-    list: &mut [u16],
-    breaks: &mut [u16],
-) -> CountedBreaks {
-    match call {
-        Call::Test => unbroken(test(word, work, list)),
-        Call::Pieces => unbroken(icfl::icfl(word, work, list)),
-        Call::Breaks => icfl_breaks::icfl_with_breaks(word, work, list, breaks),
-        Call::Strict => unbroken(cfl::cfl_in(word, list)),
-        _ => unbroken(table::lyndon_table(word, list)),
-    }
-}
-
 // Buffers to be lent.
 #[derive(Drop)]
 struct Buffers {
@@ -85,7 +68,13 @@ impl Buffers {
         let work = self.work.get_mut(..lent.work)?;
         let list = self.list.get_mut(..lent.list)?;
         let breaks = self.breaks.get_mut(..lent.breaks)?;
-        Some(call_with(call, word, work, list, breaks))
+        Some(match call {
+            Call::Test => unbroken(test(word, work, list)),
+            Call::Pieces => unbroken(icfl::icfl(word, work, list)),
+            Call::Breaks => icfl_breaks::icfl_with_breaks(word, work, list, breaks),
+            Call::Strict => unbroken(cfl::cfl_in(word, list)),
+            _ => unbroken(table::lyndon_table(word, list)),
+        })
     }
 }
 
