@@ -1,6 +1,4 @@
 //! A word cut part by part.
-ghost use Rattle.std.specs.Prelude.{◌≡◌};
-
 use access::{List, tail};
 
 /// The ends of the parts of a word, where `first` gives the length of the first part of what is left.
