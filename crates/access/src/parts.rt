@@ -1,9 +1,9 @@
 //! The parts that a paired list marks, an end and a count each; every number of their summary by a pass of its own.
-use super::entries::{entry, minus, plus, store};
+use super::entries::entry;
 
 /// Where part k ends.
 pub fn part_end(pairs: &[u16], k: usize) -> usize {
-    entry(pairs, plus(k, k))
+    entry(pairs, k.saturating_mul(2))
 }
 
 /// Where part k begins.
@@ -13,65 +13,38 @@ pub fn part_start(pairs: &[u16], k: usize) -> usize {
 
 /// The length of part k, 0 where it ends before it begins.
 pub fn part_length(pairs: &[u16], k: usize) -> usize {
-    minus(part_end(pairs, k), part_start(pairs, k))
+    part_end(pairs, k).saturating_sub(part_start(pairs, k))
 }
 
 /// The count of part k.
 pub fn part_count(pairs: &[u16], k: usize) -> usize {
-    entry(pairs, plus(plus(k, k), 1))
+    entry(pairs, k.saturating_mul(2).saturating_add(1))
 }
 
-/// Stores the count of part k.
-pub fn set_count(pairs: &mut [u16], k: usize, count: usize) {
-    store(pairs, plus(plus(k, k), 1), count);
-}
-
-/// The greatest length of a part.
+/// The greatest length of a part, 0 where there is none.
 pub fn longest(pairs: &[u16]) -> usize {
-    let mut most: usize = 0;
-    let mut k: usize = 0;
-    while k < pairs.len() / 2 {
-        let size = part_length(pairs, k);
-        if most < size {
-            most = size;
-        }
-        k += 1;
-    }
-    most
+    (0..pairs.len() / 2)
+        .map(|k| part_length(pairs, k))
+        .max()
+        .unwrap_or(0)
 }
 
 /// Where the latest part of that size begins: the first one that is met from the right.
-pub fn latest(pairs: &[u16], size: usize) -> usize {
-    let mut k = pairs.len() / 2;
-    while 0 < k {
-        k -= 1;
-        if part_length(pairs, k) == size {
-            return part_start(pairs, k);
-        }
-    }
-    0
+pub fn latest(pairs: &[u16], size: usize) -> Option<usize> {
+    (0..pairs.len() / 2)
+        .rev()
+        .find(|k| part_length(pairs, *k) == size)
+        .map(|k| part_start(pairs, k))
 }
 
-// How often a length can be halved before it is 0.
-fn band(length: usize) -> usize {
-    let mut rest = length;
-    let mut halvings: usize = 0;
-    while 0 < rest {
-        rest = rest / 2;
-        halvings = plus(halvings, 1);
-    }
-    halvings
+// How many binary digits a length has.
+fn digits(length: usize) -> usize {
+    (usize::BITS - length.leading_zeros()) as usize
 }
 
 /// How many parts have a length of that many binary digits.
-pub fn in_band(pairs: &[u16], digits: usize) -> usize {
-    let mut count: usize = 0;
-    let mut k: usize = 0;
-    while k < pairs.len() / 2 {
-        if band(part_length(pairs, k)) == digits {
-            count = plus(count, 1);
-        }
-        k += 1;
-    }
-    count
+pub fn in_band(pairs: &[u16], many: usize) -> usize {
+    (0..pairs.len() / 2)
+        .filter(|k| digits(part_length(pairs, *k)) == many)
+        .count()
 }

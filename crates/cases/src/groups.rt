@@ -1,7 +1,8 @@
 //! The groups of records, and the calls that are made on each.
-use access::{BREAK_ENTRIES, Call, PAIR_ENTRIES, front, pair_with_ones, plus, set_letter};
-use samples::{LISTS, Run, random_record, shaped_record, spell, spell_with_marks};
-use trials::{RANGES, WORDS, try_cases};
+use access::{Call, front, pair_with_ones};
+use naive::Faster;
+use samples::{LENGTHS, LISTS, Run, random_record, shaped_record, spell, spell_with_marks};
+use trials::{Case, RANGES, WORDS, try_cases, try_limits};
 
 /// Records of a kind, with the calls that are made on them.
 #[derive(Clone, Copy)]
@@ -27,118 +28,112 @@ pub enum Group {
     Lists,
 }
 
-// Writes record i of a group. Answers its length.
-fn write_record(group: Group, i: usize, word: &mut [u8], run: &mut Run) -> usize {
-    match group {
-        Group::Words { letters } => spell(word, letters, plus(i, 1)),
-        Group::MarkedWords { letters } => spell_with_marks(word, letters, plus(i, 1), run),
-        Group::Random { most } => random_record(word, most, run),
-        Group::Long => shaped_record(word, 4 + i % 3, i / 3, run),
-        Group::Lent => shaped_record(word, i % 7, i / 7, run),
-        Group::Ranges => shaped_record(word, i % 7, if i < 7 { 1 } else { 14 }, run),
-        Group::Differences => {
-            set_letter(word, i, 1);
-            set_letter(word, plus(i, 26), 2);
-            50
-        }
-        Group::Lists => shaped_record(word, i, 1, run),
+// Writes fifty equal letters but one at a place, and one that is larger still 26 places on.
+fn write_difference(room: &mut [u8], at: usize) -> usize {
+    for (i, letter) in room.iter_mut().enumerate().take(50) {
+        *letter = match i.checked_sub(at) {
+            Some(0) => 1,
+            Some(26) => 2,
+            _ => 0,
+        };
     }
+    50
 }
 
-// Cases of a call that goes by pairs, and is lent no buffers.
-fn try_by_pairs(call: Call, many: usize, word: &[u8], pairs: &[u16], run: &mut Run) {
-    try_cases(call, false, many, word, pairs, front(pairs, 0), run);
+// Writes record i of a group to the front of a room. Answers its length.
+fn write_record(group: Group, i: usize, room: &mut [u8], run: &mut Run) -> usize {
+    match group {
+        Group::Words { letters } => spell(room, letters, i.saturating_add(1)),
+        Group::MarkedWords { letters } => spell_with_marks(room, letters, i.saturating_add(1), run),
+        Group::Random { most } => random_record(room, most, run),
+        Group::Long => shaped_record(room, LENGTHS[4 + i % 3], i / 3, run),
+        Group::Lent => shaped_record(room, LENGTHS[i % 7], i / 7, run),
+        Group::Ranges => shaped_record(room, LENGTHS[i % 7], if i < 7 { 1 } else { 14 }, run),
+        Group::Differences => write_difference(room, i),
+        Group::Lists => shaped_record(room, LENGTHS[i % 7], 1, run),
+    }
 }
 
 // What goes by the pieces or by the strict pieces: the reader and the summary.
 fn on_parts(word: &[u8], pairs: &[u16], run: &mut Run) {
-    try_by_pairs(Call::Part, pairs.len() / 2, word, pairs, run);
-    try_by_pairs(Call::Summary, 1, word, pairs, run);
-}
-
-// What goes by the strict pieces: the list of their ends, so many, is paired first.
-fn on_strict(word: &[u8], list: &mut [u16], count: usize, run: &mut Run) {
-    let entries = pair_with_ones(list, count);
-    on_parts(word, front(list, entries), run);
+    try_cases(
+        Case::by_pairs(Call::Part, word, pairs),
+        pairs.len() / 2,
+        run,
+    );
+    try_cases(Case::by_pairs(Call::Summary, word, pairs), 1, run);
 }
 
 // What goes by the pieces: the comparison too, which has 8 ranges of its own and 4 of whole pieces.
 fn on_pieces(word: &[u8], pairs: &[u16], run: &mut Run) {
     on_parts(word, pairs, run);
-    try_by_pairs(Call::Compare, 12, word, pairs, run);
-    try_by_pairs(Call::Common, 4, word, pairs, run);
+    try_cases(Case::by_pairs(Call::Compare, word, pairs), 12, run);
+    try_cases(Case::by_pairs(Call::Common, word, pairs), 4, run);
 }
 
-// The first cases of one call, and what goes by the parts that it gives.
-fn on_call(call: Call, limits: bool, many: usize, word: &[u8], run: &mut Run) {
-    let mut list = [0u16; PAIR_ENTRIES];
-    let mut breaks = [0u16; BREAK_ENTRIES];
-    let found = naive::answer(call, word, false, &mut list, &mut breaks);
-    try_cases(
-        call,
-        limits,
-        many,
-        word,
-        front(&list, found.list),
-        front(&breaks, found.breaks),
-        run,
-    );
-    if limits {
-        return;
-    }
+// A call that is lent buffers, and what goes by the parts that it gives: of the strict pieces the list of their ends is
+// paired first.
+fn on_call(call: Call, word: &[u8], run: &mut Run) {
+    let found = naive::answer::<Faster>(call, word);
+    let case = Case::lent(call, word, &found);
+    try_cases(case, 1, run);
     match call {
-        Call::Strict => on_strict(word, &mut list, found.list, run),
-        Call::Pieces => on_pieces(word, front(&list, found.list), run),
+        Call::Strict => {
+            let pairs = pair_with_ones(case.list);
+            on_parts(word, pairs.as_slice(), run);
+        }
+        Call::Pieces => on_pieces(word, case.list, run),
         _ => {}
     }
 }
 
 // All calls.
 fn on_record(word: &[u8], run: &mut Run) {
-    on_call(Call::Test, false, 1, word, run);
-    on_call(Call::Starts, false, 1, word, run);
-    on_call(Call::Strict, false, 1, word, run);
-    on_call(Call::Pieces, false, 1, word, run);
-    on_call(Call::Breaks, false, 1, word, run);
+    for call in [
+        Call::Test,
+        Call::Starts,
+        Call::Strict,
+        Call::Pieces,
+        Call::Breaks,
+    ] {
+        on_call(call, word, run);
+    }
+}
+
+// The first cases of a call at the boundaries of its refusals.
+fn at_limits(call: Call, many: usize, word: &[u8], run: &mut Run) {
+    let found = naive::answer::<Faster>(call, word);
+    try_limits(Case::lent(call, word, &found), many, run);
 }
 
 // The calls that are lent buffers, at the boundaries of their refusals.
 fn on_lent(word: &[u8], run: &mut Run) {
-    on_call(Call::Test, true, 4, word, run);
-    on_call(Call::Pieces, true, 16, word, run);
-    on_call(Call::Breaks, true, 64, word, run);
-    on_call(Call::Strict, true, 4, word, run);
-    on_call(Call::Starts, true, 4, word, run);
+    at_limits(Call::Test, 4, word, run);
+    at_limits(Call::Pieces, 16, word, run);
+    at_limits(Call::Breaks, 64, word, run);
+    at_limits(Call::Strict, 4, word, run);
+    at_limits(Call::Starts, 4, word, run);
 }
 
 // The calls of a group.
 fn on_word(group: Group, word: &[u8], run: &mut Run) {
     match group {
         Group::Lent => on_lent(word, run),
-        Group::Ranges => on_call(Call::Compare, true, RANGES, word, run),
-        Group::Differences => on_call(Call::Common, false, WORDS, word, run),
+        Group::Ranges => at_limits(Call::Compare, RANGES, word, run),
+        Group::Differences => try_cases(Case::by_pairs(Call::Common, word, &[]), WORDS, run),
         Group::Lists => {
-            on_call(Call::Part, true, 5 * LISTS, word, run);
-            on_call(Call::Summary, true, LISTS, word, run);
+            at_limits(Call::Part, 5 * LISTS, word, run);
+            at_limits(Call::Summary, LISTS, word, run);
         }
         _ => on_record(word, run),
     }
 }
 
-// Record i of a group.
-fn try_record(group: Group, i: usize, run: &mut Run) {
-    let mut word = [0u8; 4100];
-    let n = write_record(group, i, &mut word, run);
-    if n <= word.len() {
-        on_word(group, &word[0..n], run);
-    }
-}
-
 /// The first `many` records of a group.
 pub fn try_group(group: Group, many: usize, run: &mut Run) {
-    let mut i: usize = 0;
-    while i < many {
-        try_record(group, i, run);
-        i += 1;
+    for i in 0..many {
+        let mut room = [0u8; 4100];
+        let n = write_record(group, i, &mut room, run);
+        on_word(group, front(&room, n), run);
     }
 }

@@ -7,12 +7,11 @@ mod groups; // the groups of records, and the calls that are made on each
 mod printing; // the lines that are printed
 
 use groups::{Group, try_group};
-use samples::{Run, STATE};
+use samples::Run;
 use std::io;
 
 fn main(rt: HostRuntime) -> io::Result<()> {
-    let mut run: Run = [0; STATE + 1];
-    run[STATE] = 20011;
+    let mut run = Run::new(20011);
     try_group(Group::Words { letters: 2 }, 1022, &mut run);
     try_group(Group::Words { letters: 3 }, 1092, &mut run);
     try_group(Group::MarkedWords { letters: 3 }, 1092, &mut run);

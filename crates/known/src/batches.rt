@@ -1,51 +1,28 @@
 //! What request 105 says of cards: the pieces of each record within it, or its refusal, and how many places hold a
 //! result of 0.
-use super::printing::{print_pieces, print_refusal};
-use access::plus;
-use batch::{Batch, MOST_RECORDS};
+use super::printing::{counted, pieces_of};
+use access::tail;
+use batch::Batch;
 use checks::{Counted, MOST};
 use std::io;
 
-// How many entries an answer's pieces have, two each.
-fn entries_of(answer: Counted) -> usize {
-    match answer {
-        Counted::Count(count) => plus(count, count),
-        Counted::Refused(_) => 0,
-    }
+// How many pieces an answer has.
+fn count_of(answer: Counted) -> usize {
+    counted(answer).unwrap_or(0)
 }
 
-fn is_zero(answer: Counted) -> bool {
-    match answer {
-        Counted::Count(count) => count == 0,
-        Counted::Refused(_) => false,
-    }
-}
-
-// One place, its pairs from entry `used` on; nothing for a result of 0.
-fn print_place(out: &impl Print, answer: Counted, pairs: &[u16], used: usize) -> io::Result<()> {
-    if is_zero(answer) {
-        return Ok(());
-    }
-    if pairs.len() < used {
-        return Ok(());
-    }
-    print_pieces(out, b"(", answer, &pairs[used..])?;
-    out.write_all(b")")
-}
-
-// All places. Answers how many hold a result of 0.
-fn print_places(out: &impl Print, found: Batch, pairs: &[u16]) -> io::Result<usize> {
-    let places = found.places;
-    let mut used: usize = 0;
+// All places, nothing for a result of 0, the pairs of each behind those before. Answers how many hold a result of 0.
+fn print_places(out: &impl Print, found: &Batch, pairs: &[u16]) -> io::Result<usize> {
+    let mut rest = pairs;
     let mut zeros: usize = 0;
-    let mut k: usize = 0;
-    while k < MOST_RECORDS {
-        let place = places[k];
+    for place in found.places.iter() {
         let answer = place.answer;
-        print_place(out, answer, pairs, used)?;
-        used = plus(used, entries_of(answer));
-        zeros = plus(zeros, if is_zero(answer) { 1 } else { 0 });
-        k += 1;
+        if counted(answer) == Ok(0) {
+            zeros = zeros.saturating_add(1);
+        } else {
+            print!(out; "({})", pieces_of(answer, rest))?;
+            rest = tail(rest, count_of(answer).saturating_mul(2));
+        }
     }
     Ok(zeros)
 }
@@ -53,21 +30,19 @@ fn print_places(out: &impl Print, found: Batch, pairs: &[u16]) -> io::Result<usi
 // A card, with so many entries lent for the pieces as `pairs` has.
 fn print_batch(
     out: &impl Print,
-    name: &[u8],
+    name: &str,
     bytes: &[u8],
     record_ends: &[u32],
     pairs: &mut [u16],
 ) -> io::Result<()> {
     let mut work = [0u16; 3 * MOST];
     let found = batch::icfl_batch(bytes, record_ends, &mut work, pairs);
-    out.write_all(name)?;
+    print!(out; "{name}: ")?;
     if found.refusal != 0 {
-        print_refusal(out, found.refusal)?;
+        print!(out; "refusal {}", found.refusal)?;
     }
-    let zeros = print_places(out, found, pairs)?;
-    out.write_all(b" zeros=")?;
-    out.print(zeros)?;
-    out.write_all(b"\n")
+    let zeros = print_places(out, &found, pairs)?;
+    println!(out; " zeros={zeros}")
 }
 
 /// The records A to K on one card, with as many entries as they need, and with one fewer; an empty record, and one with
@@ -81,33 +56,27 @@ pub fn print_batches(out: &impl Print) -> io::Result<()> {
     let mut six = [0u16; 6];
     print_batch(
         out,
-        b"A to K with 42 entries: ",
+        "A to K with 42 entries",
         papers,
         &papers_ends,
         &mut enough,
     )?;
     print_batch(
         out,
-        b"A to K with 41 entries: ",
+        "A to K with 41 entries",
         papers,
         &papers_ends,
         &mut fewer,
     )?;
     print_batch(
         out,
-        b"H, nothing, E, D with 6 entries: ",
+        "H, nothing, E, D with 6 entries",
         b"cbabacbacabcba",
         &[9, 9, 12, 14],
         &mut six,
     )?;
-    print_batch(out, b"No bytes, one end: ", b"", &[0], &mut six)?;
-    print_batch(
-        out,
-        b"H, ends 5, 4, 9: ",
-        b"cbabacbac",
-        &[5, 4, 9],
-        &mut six,
-    )?;
-    print_batch(out, b"H, end 65545: ", b"cbabacbac", &[65545], &mut six)?;
-    print_batch(out, b"65 ends: ", b"ba", &[2u32; 65], &mut six)
+    print_batch(out, "No bytes, one end", b"", &[0], &mut six)?;
+    print_batch(out, "H, ends 5, 4, 9", b"cbabacbac", &[5, 4, 9], &mut six)?;
+    print_batch(out, "H, end 65545", b"cbabacbac", &[65545], &mut six)?;
+    print_batch(out, "65 ends", b"ba", &[2u32; 65], &mut six)
 }

@@ -11,14 +11,13 @@ mod reasons; // the piece cut with its breaks
 mod refusals; // the refusals of every call
 mod repetitions; // the maximal repetitions
 
-use access::store_three;
 use batches::print_batches;
 use checks::MOST;
 use comparisons::print_comparisons;
 use extension::Extension;
 use lists::print_lists;
 use marks::print_marks;
-use printing::{print_answer, print_list, print_pieces};
+use printing::{numbers_of, pieces_of};
 use reasons::{print_joins, print_room_for_breaks};
 use refusals::print_refusals;
 use repetitions::print_repetitions;
@@ -26,20 +25,19 @@ use std::env::{Env, FillError};
 use std::io;
 
 // The pieces, with so many entries lent for them as `pairs` has.
-fn print_cut(out: &impl Print, name: &[u8], word: &[u8], pairs: &mut [u16]) -> io::Result<()> {
+fn print_cut(out: &impl Print, name: &str, word: &[u8], pairs: &mut [u16]) -> io::Result<()> {
     let mut work = [0u16; 3 * MOST];
     let answer = icfl::icfl(word, &mut work, pairs);
-    print_pieces(out, name, answer, pairs)
+    print!(out; "{name} pieces={}", pieces_of(answer, pairs))
 }
 
 // A record that is an argument of the program, with its pieces and its strict ends.
 fn print_cuts(out: &impl Print, word: &[u8]) -> io::Result<()> {
     let mut list = [0u16; 2 * MOST];
     out.write_all(word)?;
-    print_cut(out, b" pieces=", word, &mut list)?;
+    print_cut(out, "", word, &mut list)?;
     let answer = cfl::cfl_in(word, &mut list);
-    print_answer(out, b" strict=", answer, &list)?;
-    out.write_all(b"\n")
+    println!(out; " strict={}", numbers_of(answer, &list))
 }
 
 // The records A to K; an argument that is too long is taken for an empty one.
@@ -56,20 +54,15 @@ fn print_table(rt: &(impl Print + Env)) -> io::Result<()> {
 }
 
 // L, |p| and |r|; nothing where the test does not give them.
-fn print_test(out: &impl Print, name: &[u8], word: &[u8]) -> io::Result<()> {
+fn print_test(out: &impl Print, name: &str, word: &[u8]) -> io::Result<()> {
     let mut work = [0u16; MOST];
-    let mut list = [0u16; 3];
-    out.write_all(name)?;
     match extension::find_extension(word, &mut work) {
         Extension::Failing {
             failing,
             prefix,
             border,
-        } => {
-            store_three(&mut list, failing, prefix, border);
-            print_list(out, &list)
-        }
-        _ => Ok(()),
+        } => println!(out; "{name} test={failing},{prefix},{border}"),
+        _ => println!(out; "{name} test="),
     }
 }
 
@@ -77,16 +70,17 @@ fn print_test(out: &impl Print, name: &[u8], word: &[u8]) -> io::Result<()> {
 fn print_starts(out: &impl Print) -> io::Result<()> {
     let mut lengths = [0u16; 9];
     let answer = table::lyndon_table(b"cbabacbac", &mut lengths);
-    print_answer(out, b"H starts=", answer, &lengths)
+    println!(out; "H starts={}", numbers_of(answer, &lengths))
 }
 
 // The pieces of H, with as many entries lent as it needs, two for each piece, and with one fewer.
 fn print_room(out: &impl Print) -> io::Result<()> {
     let mut four = [0u16; 4];
     let mut three = [0u16; 3];
-    print_cut(out, b"\nH with 4 entries pieces=", b"cbabacbac", &mut four)?;
-    print_cut(out, b"\nH with 3 entries pieces=", b"cbabacbac", &mut three)?;
-    out.write_all(b"\n")
+    print_cut(out, "H with 4 entries", b"cbabacbac", &mut four)?;
+    println!(out)?;
+    print_cut(out, "H with 3 entries", b"cbabacbac", &mut three)?;
+    println!(out)
 }
 
 // The table, what is said of H and I and of ranges, breaks, marks, cards, repetitions and lists, and the refusals of a
@@ -95,8 +89,8 @@ fn main(rt: HostRuntime) -> io::Result<()> {
     let out = &rt;
     print_table(out)?;
     print_starts(out)?;
-    print_test(out, b"\nH test=", b"cbabacbac")?;
-    print_test(out, b"\nI test=", b"cbabacaacbabacbac")?;
+    print_test(out, "H", b"cbabacbac")?;
+    print_test(out, "I", b"cbabacaacbabacbac")?;
     print_room(out)?;
     print_comparisons(out)?;
     print_joins(out)?;
@@ -105,8 +99,8 @@ fn main(rt: HostRuntime) -> io::Result<()> {
     print_batches(out)?;
     print_repetitions(out)?;
     print_lists(out)?;
-    print_refusals(out, b"ba, a mark: ", b"ba\xff", &[3, 1])?;
+    print_refusals(out, "ba, a mark", b"ba\xff", &[3, 1])?;
     let word = [97u8; MOST + 1];
-    print_refusals(out, b"4096 letters: ", &word[..MOST], &[4096, 1])?;
-    print_refusals(out, b"4097 letters: ", &word, &[4097, 1])
+    print_refusals(out, "4096 letters", &word[..MOST], &[4096, 1])?;
+    print_refusals(out, "4097 letters", &word, &[4097, 1])
 }

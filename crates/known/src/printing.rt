@@ -1,91 +1,81 @@
-//! Lists of numbers and of pairs, refusals and answers, as the lines have them.
-use access::{entry, front, part_count, part_end, plus};
+//! Lists of numbers and of pairs, groups of entries, and answers, as the lines have them.
+use access::front;
 use checks::Counted;
-use std::io;
+use std::fmt;
 
 /// Numbers with commas between them.
-pub fn print_list(out: &impl Print, list: &[u16]) -> io::Result<()> {
-    let mut i: usize = 0;
-    while i < list.len() {
-        if 0 < i {
-            out.write_all(b",")?;
+#[derive(Clone, Copy)]
+pub struct Numbers<'a>(pub &'a [u16]);
+
+impl fmt::Display for Numbers<'_> {
+    fn fmt<W: fmt::Write>(&self, f: &mut fmt::Formatter<W>) -> fmt::Result {
+        for (i, number) in self.0.iter().enumerate() {
+            let comma = if i == 0 { "" } else { "," };
+            write!(f, "{comma}{number}")?;
         }
-        out.print(entry(list, i))?;
-        i += 1;
+        Ok(())
     }
-    Ok(())
 }
 
-/// So many pairs with commas between them, each as the listing has it: the end, a colon, the count.
-pub fn print_pairs(out: &impl Print, pairs: &[u16], count: usize) -> io::Result<()> {
-    let mut k: usize = 0;
-    while k < count {
-        if 0 < k {
-            out.write_all(b",")?;
+/// Pairs with commas between them, each as the listing has it: the end, a colon, the count.
+#[derive(Clone, Copy)]
+pub struct Pairs<'a>(pub &'a [u16]);
+
+impl fmt::Display for Pairs<'_> {
+    fn fmt<W: fmt::Write>(&self, f: &mut fmt::Formatter<W>) -> fmt::Result {
+        for (i, pair) in self.0.chunks_exact(2).enumerate() {
+            let comma = if i == 0 { "" } else { "," };
+            if let [end, count] = pair {
+                write!(f, "{comma}{end}:{count}")?;
+            }
         }
-        out.print(part_end(pairs, k))?;
-        out.write_all(b":")?;
-        out.print(part_count(pairs, k))?;
-        k += 1;
+        Ok(())
     }
-    Ok(())
 }
 
-// So many entries from one on, where there are so many.
-fn print_group(out: &impl Print, list: &[u16], from: usize, size: usize) -> io::Result<()> {
-    if list.len() < size {
-        return Ok(());
-    }
-    if list.len() - size < from {
-        return Ok(());
-    }
-    out.write_all(b"(")?;
-    print_list(out, &list[from..from + size])?;
-    out.write_all(b")")
+/// Groups of so many entries, each in brackets: breaks, or repetitions.
+#[derive(Clone, Copy)]
+pub struct Groups<'a> {
+    pub size: usize,
+    pub entries: &'a [u16],
 }
 
-/// So many groups of entries, each of that size: breaks, or repetitions.
-pub fn print_groups(out: &impl Print, list: &[u16], size: usize, count: usize) -> io::Result<()> {
-    let mut from: usize = 0;
-    let mut left = count;
-    while 0 < left {
-        print_group(out, list, from, size)?;
-        from = plus(from, size);
-        left -= 1;
+impl fmt::Display for Groups<'_> {
+    fn fmt<W: fmt::Write>(&self, f: &mut fmt::Formatter<W>) -> fmt::Result {
+        for group in self.entries.chunks_exact(self.size.max(1)) {
+            write!(f, "({})", Numbers(group))?;
+        }
+        Ok(())
     }
-    Ok(())
 }
 
-/// The refusal's number.
-pub fn print_refusal(out: &impl Print, number: u8) -> io::Result<()> {
-    out.write_all(b"refusal ")?;
-    print_list(out, &[number as u16])
+/// What a call answers: what is shown of its result, or the refusal's number.
+#[derive(Drop)]
+pub struct Answer<D>(pub Result<D, u8>);
+
+impl<D: fmt::Display> fmt::Display for Answer<D> {
+    fn fmt<W: fmt::Write>(&self, f: &mut fmt::Formatter<W>) -> fmt::Result {
+        match &self.0 {
+            Ok(result) => write!(f, "{result}"),
+            Err(number) => write!(f, "refusal {number}"),
+        }
+    }
 }
 
-/// An answer: the entries of the result, or the refusal's number.
-pub fn print_answer(
-    out: &impl Print,
-    name: &[u8],
-    answer: Counted,
-    list: &[u16],
-) -> io::Result<()> {
-    out.write_all(name)?;
+/// A count, or the refusal's number.
+pub fn counted(answer: Counted) -> Result<usize, u8> {
     match answer {
-        Counted::Count(count) => print_list(out, front(list, count)),
-        Counted::Refused(number) => print_refusal(out, number),
+        Counted::Count(count) => Ok(count),
+        Counted::Refused(number) => Err(number),
     }
 }
 
-/// The piece cut's answer: its pairs, or the refusal's number.
-pub fn print_pieces(
-    out: &impl Print,
-    name: &[u8],
-    answer: Counted,
-    pairs: &[u16],
-) -> io::Result<()> {
-    out.write_all(name)?;
-    match answer {
-        Counted::Count(count) => print_pairs(out, pairs, count),
-        Counted::Refused(number) => print_refusal(out, number),
-    }
+/// A call's list: so many entries as it answers.
+pub fn numbers_of(answer: Counted, list: &[u16]) -> Answer<Numbers<'_>> {
+    Answer(counted(answer).map(|count| Numbers(front(list, count))))
+}
+
+/// The piece cut's list: so many pairs as it answers.
+pub fn pieces_of(answer: Counted, pairs: &[u16]) -> Answer<Pairs<'_>> {
+    Answer(counted(answer).map(|count| Pairs(front(pairs, count.saturating_mul(2)))))
 }

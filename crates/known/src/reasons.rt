@@ -1,5 +1,6 @@
 //! What request 102 says of single records: the piece cut with its breaks.
-use super::printing::{print_groups, print_pairs, print_refusal};
+use super::printing::{Groups, Pairs};
+use access::front;
 use checks::MOST;
 use icfl_breaks::CountedBreaks;
 use std::io;
@@ -7,23 +8,21 @@ use std::io;
 /// The pieces and the breaks, with so many entries lent for them as `pairs` and `list` have.
 pub fn print_reasons(
     out: &impl Print,
-    name: &[u8],
+    name: &str,
     word: &[u8],
     pairs: &mut [u16],
     list: &mut [u16],
 ) -> io::Result<()> {
     let mut work = [0u16; 3 * MOST];
-    out.write_all(name)?;
     match icfl_breaks::icfl_with_breaks(word, &mut work, pairs, list) {
         CountedBreaks::Counts { factors, breaks } => {
-            out.write_all(b"pieces=")?;
-            print_pairs(out, pairs, factors)?;
-            out.write_all(b" breaks=")?;
-            print_groups(out, list, 5, breaks)?;
+            let pieces = Pairs(front(pairs, factors.saturating_mul(2)));
+            let entries = front(list, breaks.saturating_mul(5));
+            let breaks = Groups { size: 5, entries };
+            println!(out; "{name}: pieces={pieces} breaks={breaks}")
         }
-        CountedBreaks::Refused(number) => print_refusal(out, number)?,
+        CountedBreaks::Refused(number) => println!(out; "{name}: refusal {number}"),
     }
-    out.write_all(b"\n")
 }
 
 /// The breaks of a shortest record that joins with nothing to spare, of one with a join inside another, and of a
@@ -33,11 +32,11 @@ pub fn print_joins(out: &impl Print) -> io::Result<()> {
     let mut list = [0u16; 15];
     let mut none = [0u16; 0];
     let twice = b"cbabacaacbabaacbabacaacbabacbac";
-    print_reasons(out, b"baababb: ", b"baababb", &mut four, &mut list)?;
-    print_reasons(out, b"Joined twice: ", twice, &mut four, &mut list)?;
+    print_reasons(out, "baababb", b"baababb", &mut four, &mut list)?;
+    print_reasons(out, "Joined twice", twice, &mut four, &mut list)?;
     print_reasons(
         out,
-        b"F with no entry for breaks: ",
+        "F with no entry for breaks",
         b"baba",
         &mut four,
         &mut none,
@@ -51,13 +50,7 @@ pub fn print_room_for_breaks(out: &impl Print) -> io::Result<()> {
     let mut three = [0u16; 3];
     let mut ten = [0u16; 10];
     let mut nine = [0u16; 9];
-    print_reasons(out, b"I with 4 and 10 entries: ", word, &mut four, &mut ten)?;
-    print_reasons(
-        out,
-        b"I with 3 and 10 entries: ",
-        word,
-        &mut three,
-        &mut ten,
-    )?;
-    print_reasons(out, b"I with 4 and 9 entries: ", word, &mut four, &mut nine)
+    print_reasons(out, "I with 4 and 10 entries", word, &mut four, &mut ten)?;
+    print_reasons(out, "I with 3 and 10 entries", word, &mut three, &mut ten)?;
+    print_reasons(out, "I with 4 and 9 entries", word, &mut four, &mut nine)
 }

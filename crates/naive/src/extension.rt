@@ -1,99 +1,56 @@
 //! The test: by the definitions every suffix is compared, and every length tried; in the faster way the suffixes are
 //! gone through once.
-use super::order::{agreeing, natural_less};
-use access::{letter, minus, plus};
+use super::order::agreeing;
+use access::{entry, front, tail};
 
-// Whether the first n letters are an inverse Lyndon word: nonempty, and greater in the natural order than each proper
-// suffix.
-fn is_inverse_lyndon(word: &[u8], n: usize) -> bool {
-    let mut j: usize = 1;
-    while j < n {
-        if !natural_less(word, n, j, 0) {
-            return false;
-        }
-        j += 1;
-    }
-    0 < n
+// Whether a word is inverse Lyndon: nonempty, and greater in the natural order than each proper suffix.
+fn is_inverse_lyndon(word: &[u8]) -> bool {
+    !word.is_empty() && (1..word.len()).all(|j| tail(word, j) < word)
 }
 
-// The length of the shortest prefix that is not inverse Lyndon, trying every length; 0 if there is none.
-fn failing_by_trial(word: &[u8]) -> usize {
-    let mut n: usize = 0;
-    while n < word.len() {
-        n += 1;
-        if !is_inverse_lyndon(word, n) {
-            return n;
-        }
+// Whether a word is r a u r b with |r| = k and a less than b.
+fn splits(word: &[u8], k: usize) -> bool {
+    match word.split_last() {
+        Some((b, before)) => before.ends_with(front(word, k)) && entry(word, k) < usize::from(*b),
+        None => false,
     }
-    0
 }
 
-// The length of the shortest prefix that its suffix from j exceeds: up to the first place where the letters differ; 0
-// if there is none.
-fn failing_at(word: &[u8], j: usize) -> usize {
-    let k = agreeing(word, word.len(), 0, j);
-    let at = plus(j, k);
-    if word.len() <= at {
-        return 0;
-    }
-    if letter(word, at) < letter(word, k) {
-        return 0;
-    }
-    plus(at, 1)
+/// A shortest prefix p r that is not inverse Lyndon.
+#[derive(Clone, Copy)]
+pub struct Failing {
+    pub length: usize,
+    pub prefix: usize,
+    pub border: usize,
 }
 
-// The smaller of two lengths, where 0 stands for none.
-fn least(a: usize, b: usize) -> usize {
-    if a == 0 {
-        return b;
-    }
-    if b == 0 || a < b {
-        return a;
-    }
-    b
+// Its parts, from its length n: |r| is the least k with 2k + 2 ≤ n that splits it.
+fn parts_of(word: &[u8], length: usize) -> Option<Failing> {
+    let failing = front(word, length);
+    let border = (0..length / 2).find(|k| splits(failing, *k))?;
+    Some(Failing {
+        length,
+        prefix: length.saturating_sub(border.saturating_add(1)),
+        border,
+    })
 }
 
-/// The same length by the suffixes: the least prefix that one of its suffixes exceeds.
-pub fn failing_length(word: &[u8]) -> usize {
-    let mut found: usize = 0;
-    let mut j: usize = 1;
-    while j < word.len() {
-        if found != 0 {
-            if found <= j {
-                return found;
-            }
-        }
-        found = least(found, failing_at(word, j));
-        j += 1;
-    }
-    found
+/// The shortest prefix that is not inverse Lyndon, trying every length.
+pub fn failing_by_trial(word: &[u8]) -> Option<Failing> {
+    let length = (1..=word.len()).find(|n| !is_inverse_lyndon(front(word, *n)))?;
+    parts_of(word, length)
 }
 
-/// L of a word, 0 if it is inverse Lyndon: by the definition (`defined`), or in the faster way.
-pub fn failing(word: &[u8], defined: bool) -> usize {
-    if defined {
-        return failing_by_trial(word);
-    }
-    failing_length(word)
+// The length of the shortest prefix that its suffix from j exceeds: up to the first place where the letters differ.
+fn failing_at(word: &[u8], j: usize) -> Option<usize> {
+    let suffix = tail(word, j);
+    let k = agreeing(word, suffix);
+    let exceeds = *word.get(k)? < *suffix.get(k)?;
+    exceeds.then_some(j.saturating_add(k).saturating_add(1))
 }
 
-// Whether the first n letters are r a u r b with |r| = k and a less than b.
-fn splits(word: &[u8], n: usize, k: usize) -> bool {
-    let last = minus(n, 1);
-    if agreeing(word, last, 0, minus(last, k)) < k {
-        return false;
-    }
-    letter(word, k) < letter(word, last)
-}
-
-/// |r| for the first n letters: the least k with 2k + 2 ≤ n that splits them so, n if there is none.
-pub fn border(word: &[u8], n: usize) -> usize {
-    let mut k: usize = 0;
-    while k < n / 2 {
-        if splits(word, n, k) {
-            return k;
-        }
-        k += 1;
-    }
-    n
+/// The same by the suffixes: the shortest prefix that one of its suffixes exceeds.
+pub fn failing_by_suffixes(word: &[u8]) -> Option<Failing> {
+    let length = (1..word.len()).filter_map(|j| failing_at(word, j)).min()?;
+    parts_of(word, length)
 }

@@ -2,27 +2,13 @@
 //! table. A stretch is what stands between two neighbouring marks, or between a mark and an edge of the record. Each
 //! one that is not empty is cut as a record by itself, and what is found is then put in the record's places. Until the
 //! pieces are paired, the list of the piece cut has its ends alone, and that of the cut with breaks these.
-use super::calls::{Room, list_of, needed};
-use access::{Call, ENTRIES, SEPARATOR, entry, front, pair_with_strict, plus, store};
-
-// The first place from `from` on that has a mark; the record's length if there is none.
-fn next_separator(word: &[u8], from: usize) -> usize {
-    let mut at = from;
-    while at < word.len() {
-        if word[at] == SEPARATOR {
-            return at;
-        }
-        at += 1;
-    }
-    word.len()
-}
+use super::calls::{Answer, list_of};
+use super::ways::Way;
+use access::{Call, List, SEPARATOR, pair_with_strict};
 
 /// Whether a call refuses the record for a mark: the test alone does.
 pub fn refuses_separator(call: Call, word: &[u8]) -> bool {
-    match call {
-        Call::Test => next_separator(word, 0) < word.len(),
-        _ => false,
-    }
+    call == Call::Test && word.contains(&SEPARATOR)
 }
 
 // How much entry k of a stretch's list grows in the record, where the stretch begins at `from`: an end is a place, and
@@ -30,117 +16,62 @@ pub fn refuses_separator(call: Call, word: &[u8]) -> bool {
 fn growth(call: Call, k: usize, from: usize) -> usize {
     match call {
         Call::Pieces | Call::Strict => from,
-        Call::Breaks => { if k % 5 < 2 { from } else { 0 } }
+        Call::Breaks if k % 5 < 2 => from,
         _ => 0,
     }
 }
 
-// Puts so many entries from `at` on, found in a stretch that begins at `from`, in the record's places.
-fn put_in_place(call: Call, from: usize, list: &mut [u16], at: usize, count: usize) {
-    let mut k: usize = 0;
-    while k < count {
-        let i = plus(at, k);
-        let value = plus(entry(list, i), growth(call, k, from));
-        store(list, i, value);
-        k += 1;
+// Writes the entries of the stretch that begins at `from`, in the record's places; an empty one has none.
+fn write_stretch<W: Way>(call: Call, stretch: &[u8], from: usize, list: &mut List) {
+    if stretch.is_empty() {
+        return;
+    }
+    let found = list_of::<W>(call, stretch);
+    for (k, entry) in found.as_slice().iter().enumerate() {
+        list.push(usize::from(*entry).saturating_add(growth(call, k, from)));
     }
 }
 
-// Writes the entries of the stretch from `from` to `to` from `at` on, in the record's places; an empty one has none.
-// Answers the entry after them.
-fn write_stretch(
-    call: Call,
-    word: &[u8],
-    from: usize,
-    to: usize,
-    defined: bool,
-    list: &mut [u16],
-    at: usize,
-) -> usize {
-    if to <= from || word.len() < to {
-        return at;
-    }
-    if list.len() < at {
-        return at;
-    }
-    let count = list_of(call, &word[from..to], defined, &mut list[at..]);
-    put_in_place(call, from, list, at, count);
-    plus(at, count)
-}
-
-// The same with the entry of the mark at `to`, where the record goes on: its end, or its length; it has no break.
-fn write_through(
-    call: Call,
-    word: &[u8],
-    from: usize,
-    to: usize,
-    defined: bool,
-    list: &mut [u16],
-    at: usize,
-) -> usize {
-    let next = write_stretch(call, word, from, to, defined, list, at);
-    if word.len() <= to {
-        return next;
-    }
-    let value = match call {
-        Call::Pieces | Call::Strict => plus(to, 1),
-        Call::Starts => 1,
-        _ => return next,
-    };
-    store(list, next, value);
-    plus(next, 1)
-}
-
-// Writes the list of a record, stretch by stretch. Answers how many entries it has.
-fn write_list(call: Call, word: &[u8], defined: bool, list: &mut [u16]) -> usize {
-    let mut from: usize = 0;
-    let mut count: usize = 0;
-    while from < word.len() {
-        let to = next_separator(word, from);
-        count = write_through(call, word, from, to, defined, list, count);
-        let next = plus(to, 1);
-        if next <= from {
-            return count;
-        }
-        from = next;
-    }
-    count
-}
-
-// Writes the pieces, beside each end the number of strict pieces inside. Answers how many entries there are.
-fn write_pairs(word: &[u8], defined: bool, list: &mut [u16]) -> usize {
-    let mut strict = [0u16; ENTRIES];
-    let count = write_list(Call::Pieces, word, defined, list);
-    let many = write_list(Call::Strict, word, defined, &mut strict);
-    pair_with_strict(list, count, front(&strict, many))
-}
-
-/// Writes what a call that is lent buffers answers, nothing for the others: each stretch by the definitions
-/// (`defined`), which take cubic time, or in the faster ways; nothing for a record that the call refuses for a mark.
-/// Answers the entries that it needs.
-pub fn answer(
-    call: Call,
-    word: &[u8],
-    defined: bool,
-    list: &mut [u16],
-    breaks: &mut [u16],
-) -> Room {
-    if refuses_separator(call, word) {
-        return needed(call, word.len(), 0, 0);
-    }
+// Writes the entry of the mark at a place: its end, or its length; it has no break.
+fn write_mark(call: Call, at: usize, list: &mut List) {
     match call {
-        Call::Breaks => {
-            let entries = write_pairs(word, defined, list);
-            let beside = write_list(call, word, defined, breaks);
-            needed(call, word.len(), entries, beside)
+        Call::Pieces | Call::Strict => list.push(at.saturating_add(1)),
+        Call::Starts => list.push(1),
+        _ => {}
+    }
+}
+
+// The list of a record, stretch by stretch.
+fn list_with_marks<W: Way>(call: Call, word: &[u8]) -> List {
+    let mut list = List::new();
+    let mut from: usize = 0;
+    for stretch in word.split(|letter| *letter == SEPARATOR) {
+        write_stretch::<W>(call, stretch, from, &mut list);
+        let to = from.saturating_add(stretch.len());
+        if to < word.len() {
+            write_mark(call, to, &mut list);
         }
-        Call::Pieces => {
-            let entries = write_pairs(word, defined, list);
-            needed(call, word.len(), entries, 0)
-        }
-        _ => {
-            let entries = write_list(call, word, defined, list);
-            needed(call, word.len(), entries, 0)
-        }
+        from = to.saturating_add(1);
+    }
+    list
+}
+
+// The pieces, beside each end the number of strict pieces inside.
+fn pairs<W: Way>(word: &[u8]) -> List {
+    let pieces = list_with_marks::<W>(Call::Pieces, word);
+    let strict = list_with_marks::<W>(Call::Strict, word);
+    pair_with_strict(pieces.as_slice(), strict.as_slice())
+}
+
+/// What a call that is lent buffers answers, nothing for the others, nor for a record that the call refuses for a mark.
+pub fn answer<W: Way>(call: Call, word: &[u8]) -> Answer {
+    match call {
+        _ if refuses_separator(call, word) => Answer::unbroken(List::new()),
+        Call::Pieces => Answer::unbroken(pairs::<W>(word)),
+        Call::Breaks => Answer {
+            list: pairs::<W>(word),
+            breaks: list_with_marks::<W>(call, word),
+        },
+        _ => Answer::unbroken(list_with_marks::<W>(call, word)),
     }
 }

@@ -1,62 +1,43 @@
 //! The strict cut and the start table by suffixes of the whole word: a longest anti-Lyndon word ends where the next
 //! suffix begins that comes before the suffix at its start.
 use super::order::inverse_before;
-use access::{ENTRIES, entry, minus, plus, store};
+use access::{List, entry, tail};
 
-/// Writes the ends of the strict cut: the starts of the suffixes that come before all longer ones, and the length.
-/// Answers their number.
-pub fn strict_by_suffixes(word: &[u8], ends: &mut [u16]) -> usize {
-    let n = word.len();
-    let mut count: usize = 0;
-    let mut last: usize = 0;
-    let mut j: usize = 1;
-    while j < n {
-        store(ends, count, j);
-        if inverse_before(word, n, j, last) {
-            count = plus(count, 1);
+/// The ends of the strict cut: the starts of the suffixes that come before all longer ones, and the length.
+pub fn strict_by_suffixes(word: &[u8]) -> List {
+    let mut ends = List::new();
+    let mut last = 0;
+    for j in 1..word.len() {
+        if inverse_before(tail(word, j), tail(word, last)) {
+            ends.push(j);
             last = j;
         }
-        j += 1;
     }
-    store(ends, count, n);
-    plus(count, 1)
+    ends.push(word.len());
+    ends
 }
 
-// Every entry is the rest of the word, the answer for a place that no suffix after it comes before.
-fn rests(word: &[u8], lengths: &mut [u16]) {
-    let mut i: usize = 0;
-    while i < word.len() {
-        store(lengths, i, minus(word.len(), i));
-        i += 1;
-    }
-}
-
-// Takes from the stack of open places those that the suffix at i comes before, and writes their lengths. Answers how
-// many places stay open.
-fn settle(word: &[u8], lengths: &mut [u16], stack: &[u16], open: usize, i: usize) -> usize {
-    let mut left = open;
-    while 0 < left {
-        let place = entry(stack, left - 1);
-        if !inverse_before(word, word.len(), i, place) {
-            return left;
+// The length of the longest anti-Lyndon prefix; `lengths` has that of each proper suffix, the shortest first. From a
+// suffix that the word comes before, the next one that may come before the word is where that prefix of it ends.
+fn first_length(word: &[u8], lengths: &[u16]) -> usize {
+    let mut length: usize = 1;
+    while length < word.len() {
+        let suffix = tail(word, length);
+        if inverse_before(suffix, word) {
+            return length;
         }
-        store(lengths, place, minus(i, place));
-        left -= 1;
+        let next = entry(lengths, suffix.len().saturating_sub(1));
+        length = length.saturating_add(next.max(1));
     }
-    left
+    word.len()
 }
 
-/// Writes the start table. Answers its length.
-pub fn starts_by_suffixes(word: &[u8], lengths: &mut [u16]) -> usize {
-    let mut stack = [0u16; ENTRIES];
-    rests(word, lengths);
-    let mut open: usize = 0;
-    let mut i: usize = 0;
-    while i < word.len() {
-        let left = settle(word, lengths, &stack, open, i);
-        store(&mut stack, left, i);
-        open = plus(left, 1);
-        i += 1;
+/// The start table.
+pub fn starts_by_suffixes(word: &[u8]) -> List {
+    let mut shortest_first = List::new();
+    for i in (0..word.len()).rev() {
+        let length = first_length(tail(word, i), shortest_first.as_slice());
+        shortest_first.push(length);
     }
-    i
+    shortest_first.reversed()
 }

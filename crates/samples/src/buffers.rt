@@ -1,34 +1,32 @@
 //! Buffers filled before a call, and looked through after it.
-use access::{entry, plus, store};
+use access::{front, limited};
 
-/// Fills the whole buffer with the numbers above `salt`, one after the other.
+// What entry i is filled with: the numbers above `salt`, one after the other.
+fn filled(i: usize, salt: usize) -> u16 {
+    limited(salt.saturating_add(i).saturating_add(1))
+}
+
+/// Fills the whole buffer.
 pub fn fill(list: &mut [u16], salt: usize) {
-    let mut i: usize = 0;
-    while i < list.len() {
-        i += 1;
-        store(list, i - 1, plus(salt, i));
+    for (i, entry) in list.iter_mut().enumerate() {
+        *entry = filled(i, salt);
     }
 }
 
-// What entry i is after a call that cleared so many entries and wrote these.
-fn left(i: usize, cleared: usize, written: &[u16], salt: usize) -> usize {
-    if i < cleared {
-        return 0;
-    }
-    if i < written.len() {
-        return entry(written, i);
-    }
-    plus(salt, plus(i, 1))
+// Whether all entries from one on are as they were filled.
+fn is_untouched(list: &[u16], from: usize, salt: usize) -> bool {
+    let mut rest = list.iter().enumerate().skip(from);
+    rest.all(|(i, entry)| *entry == filled(i, salt))
 }
 
-/// Whether the first entries are cleared, or are those written, and all later ones as they were filled.
-pub fn is_left(list: &[u16], cleared: usize, written: &[u16], salt: usize) -> bool {
-    let mut i: usize = 0;
-    while i < list.len() {
-        if entry(list, i) != left(i, cleared, written, salt) {
-            return false;
-        }
-        i += 1;
-    }
-    cleared <= i && written.len() <= i
+/// Whether so many entries are cleared, and all later ones as they were filled.
+pub fn is_cleared(list: &[u16], count: usize, salt: usize) -> bool {
+    count <= list.len()
+        && front(list, count).iter().all(|entry| *entry == 0)
+        && is_untouched(list, count, salt)
+}
+
+/// Whether these entries are written, and all later ones as they were filled.
+pub fn is_written(list: &[u16], entries: &[u16], salt: usize) -> bool {
+    list.starts_with(entries) && is_untouched(list, entries.len(), salt)
 }

@@ -9,9 +9,8 @@ mod records; // the records on which the calls are compared: random ones, and sh
 mod numbers; // numbers at boundaries, and lists of them
 mod buffers; // buffers filled before a call and looked through after it
 
-pub use buffers::{fill, is_left};
-pub use marks::spell_with_marks;
-pub use numbers::{LISTS, about, write_list};
-pub use records::{random_record, shaped_record};
-pub use run::{Run, STATE, draw, note, place};
+pub use buffers::{fill, is_cleared, is_written};
+pub use numbers::{LISTS, about, paired_list};
+pub use records::{LENGTHS, random_record, shaped_record, spell_with_marks};
+pub use run::{Count, Counts, Run};
 pub use shapes::spell;

@@ -1,10 +1,12 @@
-//! Records of a shape, written to the first n letters.
-use super::run::{Run, draw};
-use access::{letter, minus, plus, set_letter};
+//! Records of a shape.
+use super::run::Run;
+use access::entry;
 
 /// What the letters of a record are.
 #[derive(Clone, Copy)]
 pub enum Shape {
+    /// At random over so many letters.
+    Random { letters: usize },
     /// At random over so many letters for one period, and then repeated.
     Periodic { letters: usize, period: usize },
     /// In about one place of four a letter at random, elsewhere the one before it.
@@ -19,66 +21,66 @@ pub enum Shape {
     Joins,
 }
 
-/// The word of a number in the list of all words over a, b, .. by length: 1 is a, and the digits are those of the
-/// bijective numeration. Answers its length.
+/// The letter of a number, by its remainder modulo 256.
+pub fn letter(number: usize) -> u8 {
+    (number % 256) as u8
+}
+
+/// Writes the word of a number in the list of all words over a, b, .. by length: 1 is a, and the digits are those of
+/// the bijective numeration. Answers its length.
 pub fn spell(word: &mut [u8], letters: usize, number: usize) -> usize {
-    if letters == 0 {
-        return 0;
-    }
     let mut rest = number;
-    let mut i: usize = 0;
-    while i < word.len() {
-        if rest == 0 {
+    for (i, place) in word.iter_mut().enumerate() {
+        if rest == 0 || letters == 0 {
             return i;
         }
-        set_letter(word, i, plus(97, (rest - 1) % letters));
+        *place = letter((rest - 1) % letters).wrapping_add(b'a');
         rest = (rest - 1) / letters;
-        i += 1;
     }
-    i
+    word.len()
 }
 
 // Letter i of n of c^k a c^k b.
 fn letter_of_powers(n: usize, i: usize) -> usize {
-    if i == minus(n, 1) {
+    if i == n.saturating_sub(1) {
         return 98;
     }
-    if i == minus(n, 2) / 2 { 97 } else { 99 }
+    if i == n.saturating_sub(2) / 2 { 97 } else { 99 }
 }
 
-// A new letter, or the one so many places before.
-fn new_or_earlier(is_new: bool, new: usize, word: &[u8], i: usize, before: usize) -> usize {
-    if is_new {
-        return new;
-    }
-    letter(word, minus(i, before)) as usize
-}
-
-// Letter i of n.
-fn letter_of(word: &[u8], n: usize, i: usize, shape: Shape, run: &mut Run) -> usize {
+// The next letter of n, after these.
+fn next_letter(before: &[u8], n: usize, shape: Shape, run: &mut Run) -> usize {
+    let i = before.len();
     match shape {
+        Shape::Random { letters } => run.draw(letters),
         Shape::Periodic { letters, period } => {
-            let new = draw(run, letters);
-            new_or_earlier((i < period) | (period == 0), new, word, i, period)
+            let new = run.draw(letters);
+            if i < period || period == 0 {
+                new
+            } else {
+                entry(before, i - period)
+            }
         }
         Shape::Plateaus { letters } => {
-            let new = draw(run, letters);
-            new_or_earlier(draw(run, 4) == 0, new, word, i, 1)
+            let new = run.draw(letters);
+            if run.draw(4) == 0 {
+                new
+            } else {
+                entry(before, i.saturating_sub(1))
+            }
         }
         Shape::Rising { width } => i / (width % 256 + 1),
-        Shape::Falling { width } => minus(254, i / (width % 256 + 1)),
+        Shape::Falling { width } => 254usize.saturating_sub(i / (width % 256 + 1)),
         Shape::Powers => letter_of_powers(n, i),
-        Shape::Joins => letter(b"cbabacaacbabacbac\xff", i % 18) as usize,
+        Shape::Joins => entry(b"cbabacaacbabacbac\xff", i % 18),
     }
 }
 
-/// Writes a record of n letters. Answers n.
-pub fn write(word: &mut [u8], n: usize, shape: Shape, run: &mut Run) -> usize {
-    let mut i: usize = 0;
-    while i < n {
-        let value = letter_of(word, n, i, shape, run);
-        set_letter(word, i, value);
-        i += 1;
+/// Writes a record of a shape.
+pub fn write(word: &mut [u8], shape: Shape, run: &mut Run) {
+    let n = word.len();
+    for i in 0..n {
+        let next = next_letter(&word[..i], n, shape, run);
+        word[i] = letter(next);
     }
-    n
 }

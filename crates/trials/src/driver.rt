@@ -1,56 +1,41 @@
 //! So many cases of a call on one record.
+use super::case::Case;
 use super::{comparing, lending, parting};
 use access::Call;
-use samples::{Run, note};
+use samples::Run;
 
-// Whether the call and the second implementation agree on case `code` at the boundaries of the refusals.
-fn agrees_at_limits(call: Call, word: &[u8], list: &[u16], breaks: &[u16], code: usize) -> bool {
-    match call {
-        Call::Compare => comparing::agrees_at_limits(word, code),
-        Call::Part => parting::part_agrees_at_limits(word, code),
-        Call::Summary => parting::summary_agrees_at_limits(word, code),
-        _ => lending::agrees_at_limits(call, word, list, breaks, code),
+// Whether the call and the second implementation agree on case `code`.
+fn agrees(case: Case, code: usize, run: &mut Run) -> bool {
+    match case.call {
+        Call::Compare => comparing::agrees(case.word, case.list, code, run),
+        Call::Common => comparing::words_agree(case.word, code, run),
+        Call::Part => parting::part_agrees(case.word, case.list, code),
+        Call::Summary => parting::summary_agrees(case.word, case.list),
+        _ => lending::agrees(case),
     }
 }
 
-// The same, at these boundaries or not.
-fn agrees(
-    call: Call,
-    limits: bool,
-    word: &[u8],
-    list: &[u16],
-    breaks: &[u16],
-    code: usize,
-    run: &mut Run,
-) -> bool {
-    if limits {
-        return agrees_at_limits(call, word, list, breaks, code);
-    }
-    match call {
-        Call::Compare => comparing::agrees(word, list, code, run),
-        Call::Common => comparing::words_agree(word, code, run),
-        Call::Part => parting::part_agrees(word, list, code),
-        Call::Summary => parting::summary_agrees(word, list),
-        _ => lending::agrees(call, word, list, breaks),
+// The same on case `code` at the boundaries of the refusals.
+fn agrees_at_limits(case: Case, code: usize) -> bool {
+    match case.call {
+        Call::Compare => comparing::agrees_at_limits(case.word, code),
+        Call::Part => parting::part_agrees_at_limits(case.word, code),
+        Call::Summary => parting::summary_agrees_at_limits(case.word, code),
+        _ => lending::agrees_at_limits(case, code),
     }
 }
 
-/// The first `many` cases of a call, at the boundaries of its refusals or not. The list is what a call that is lent
-/// buffers should answer, beside it the breaks, where it gives them; or the pairs that comparison, reader and summary
-/// go by.
-pub fn try_cases(
-    call: Call,
-    limits: bool,
-    many: usize,
-    word: &[u8],
-    list: &[u16],
-    breaks: &[u16],
-    run: &mut Run,
-) {
-    let mut code: usize = 0;
-    while code < many {
-        let agreed = agrees(call, limits, word, list, breaks, code, run);
-        note(run, call, limits, agreed);
-        code += 1;
+/// The first `many` cases of a call.
+pub fn try_cases(case: Case, many: usize, run: &mut Run) {
+    for code in 0..many {
+        let agreed = agrees(case, code, run);
+        run.cases.note(case.call, agreed);
+    }
+}
+
+/// The first `many` cases at the boundaries of its refusals.
+pub fn try_limits(case: Case, many: usize, run: &mut Run) {
+    for code in 0..many {
+        run.limits.note(case.call, agrees_at_limits(case, code));
     }
 }

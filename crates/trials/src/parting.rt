@@ -1,63 +1,56 @@
 //! The reader and the summary.
-use access::{PAIR_ENTRIES, entry, front, minus, tail};
-use samples::{about, write_list};
+use access::{part, part_end, part_start};
+use samples::{about, paired_list};
 use summary::Summary;
 
 /// Whether the reader gives the part, or the refusal beside an empty one.
 pub fn part_agrees(word: &[u8], pairs: &[u16], number: usize) -> bool {
     let mut told: u8 = 200;
-    let part = reading::factor_at(word, pairs, number, &mut told);
-    let refused = naive::part_refusal(word.len(), pairs, number);
-    let from = access::part_start(pairs, number);
-    let end = if refused == 0 {
-        access::part_end(pairs, number)
-    } else {
-        from
-    };
-    let size = minus(end, from);
-    (told == refused) & (part.len() == size) & (naive::common(part, tail(word, from)) == size)
-}
-
-// Whether the thirteen counts are those of the parts.
-fn are_bands(bands: &[u16], pairs: &[u16]) -> bool {
-    let mut k: usize = 0;
-    while k < 13 {
-        if entry(bands, k) != access::in_band(pairs, k + 1) {
-            return false;
+    let found = reading::factor_at(word, pairs, number, &mut told);
+    match naive::part_refusal(word.len(), pairs, number) {
+        Some(line) => told == line && found.is_empty(),
+        None => {
+            let want = part(word, part_start(pairs, number), part_end(pairs, number));
+            told == 0 && found == want
         }
-        k += 1;
     }
-    true
 }
 
-// Whether the numbers of a summary are those of the parts.
+// Whether the counts of a summary are those of the parts.
+fn are_bands(bands: &[u16; 13], pairs: &[u16]) -> bool {
+    let mut bands_and_digits = bands.iter().zip(1..=13);
+    bands_and_digits.all(|(band, digits)| usize::from(*band) == access::in_band(pairs, digits))
+}
+
+// Whether the numbers of a summary are those of the parts, 0 throughout where there is none.
 fn is_summary(summary: Summary, pairs: &[u16]) -> bool {
     let longest = access::longest(pairs);
-    let from = access::latest(pairs, longest);
+    let from = access::latest(pairs, longest).unwrap_or(0);
     let bands = summary.bands;
-    let placed = (summary.longest as usize == longest) & (summary.from as usize == from);
-    placed & (summary.count as usize == pairs.len() / 2) & are_bands(&bands, pairs)
+    usize::from(summary.count) == pairs.len() / 2
+        && usize::from(summary.longest) == longest
+        && usize::from(summary.from) == from
+        && are_bands(&bands, pairs)
 }
 
-/// Whether the summary is that of the parts, or the refusal beside that of no parts, which is 0 throughout.
+/// Whether the summary is that of the parts, or the refusal beside that of no parts.
 pub fn summary_agrees(word: &[u8], pairs: &[u16]) -> bool {
     let summary = summary::summarize(word, pairs);
-    let refused = naive::summary_refusal(word.len(), pairs);
-    let parts = front(pairs, if refused == 0 { pairs.len() } else { 0 });
-    (summary.refusal == refused) & is_summary(summary, parts)
+    match naive::summary_refusal(word.len(), pairs) {
+        Some(line) => summary.refusal == line && is_summary(summary, &[]),
+        None => summary.refusal == 0 && is_summary(summary, pairs),
+    }
 }
 
 /// The reader on list `code` / 5 of those with faults, at one of five numbers about the number of its pairs.
 pub fn part_agrees_at_limits(word: &[u8], code: usize) -> bool {
-    let mut pairs = [0u16; PAIR_ENTRIES];
-    let entries = write_list(&mut pairs, word.len(), code / 5);
-    let number = about(0, entries / 2, code % 5 + 1);
-    part_agrees(word, front(&pairs, entries), number)
+    let list = paired_list(word.len(), code / 5);
+    let pairs = list.as_slice();
+    part_agrees(word, pairs, about(0, pairs.len() / 2)[code % 5 + 1])
 }
 
 /// The summary of list `code`.
 pub fn summary_agrees_at_limits(word: &[u8], code: usize) -> bool {
-    let mut pairs = [0u16; PAIR_ENTRIES];
-    let entries = write_list(&mut pairs, word.len(), code);
-    summary_agrees(word, front(&pairs, entries))
+    let pairs = paired_list(word.len(), code);
+    summary_agrees(word, pairs.as_slice())
 }

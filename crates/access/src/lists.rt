@@ -1,0 +1,74 @@
+//! Lists of numbers, in a room of fixed size.
+use super::entries::front;
+
+/// Room for the list of the longest record that is tried, 4,097 letters, and for some entries more.
+pub const ENTRIES: usize = 4110;
+
+/// Room for its pairs, two entries each.
+pub const PAIR_ENTRIES: usize = 2 * ENTRIES;
+
+/// Room for the breaks of such a record, five entries each: no list is longer.
+pub const BREAK_ENTRIES: usize = 5 * ENTRIES;
+
+/// A number as an entry, 65,535 for a greater one.
+pub fn limited(number: usize) -> u16 {
+    u16::try_from(number).unwrap_or(u16::MAX)
+}
+
+/// A list of numbers.
+#[derive(Drop)]
+pub struct List {
+    entries: [u16; BREAK_ENTRIES],
+    count: usize,
+}
+
+impl List {
+    /// The empty list.
+    pub fn new() -> List {
+        List {
+            entries: [0; BREAK_ENTRIES],
+            count: 0,
+        }
+    }
+
+    /// Adds an entry, 65,535 for a greater number; nothing where there is no room.
+    pub fn push(&mut self, value: usize) {
+        if self.count < BREAK_ENTRIES {
+            self.entries[self.count] = limited(value);
+            self.count += 1;
+        }
+    }
+
+    /// Adds entries, one after the other.
+    pub fn extend(&mut self, values: &[usize]) {
+        for value in values {
+            self.push(*value);
+        }
+    }
+
+    /// Changes the entry at a place; past the end nothing.
+    pub fn set(&mut self, at: usize, value: usize) {
+        if at < self.count && at < BREAK_ENTRIES {
+            self.entries[at] = limited(value);
+        }
+    }
+
+    /// Takes the last entry away.
+    pub fn pop(&mut self) {
+        self.count = self.count.saturating_sub(1);
+    }
+
+    /// The entries.
+    pub fn as_slice(&self) -> &[u16] {
+        front(&self.entries, self.count)
+    }
+
+    /// The same entries, the last one first.
+    pub fn reversed(&self) -> List {
+        let mut list = List::new();
+        for entry in self.as_slice().iter().rev() {
+            list.push(usize::from(*entry));
+        }
+        list
+    }
+}

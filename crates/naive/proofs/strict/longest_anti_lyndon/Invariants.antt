@@ -1,5 +1,0 @@
--- Safe and ending: the loop's measure is what is left.
-use Rattle.naive.proofs.strict.longest_anti_lyndon.Given as goal
-
-abbrev pub decreases-loop-n : goal.decreases-loop-n
-decreases-loop-n l = l.n

@@ -1,0 +1,64 @@
+//! The two ways to answer the calls on a word without marks: by the definitions, which take cubic time, and faster.
+use super::extension::{Failing, failing_by_suffixes, failing_by_trial};
+use super::fold::pieces_by_fold;
+use super::pieces::pieces_by_definition;
+use super::strict::{starts_by_longest, strict_by_longest};
+use super::suffixes::{starts_by_suffixes, strict_by_suffixes};
+use access::List;
+
+/// A way to answer them.
+pub trait Way {
+    /// The shortest prefix that is not inverse Lyndon.
+    fn failing(word: &[u8]) -> Option<Failing>;
+
+    /// The ends of the piece cut.
+    fn pieces(word: &[u8]) -> List;
+
+    /// The ends of the strict cut.
+    fn strict(word: &[u8]) -> List;
+
+    /// The start table.
+    fn starts(word: &[u8]) -> List;
+}
+
+/// By the definitions.
+pub struct Defined;
+
+impl Way for Defined {
+    fn failing(word: &[u8]) -> Option<Failing> {
+        failing_by_trial(word)
+    }
+
+    fn pieces(word: &[u8]) -> List {
+        pieces_by_definition(word)
+    }
+
+    fn strict(word: &[u8]) -> List {
+        strict_by_longest(word)
+    }
+
+    fn starts(word: &[u8]) -> List {
+        starts_by_longest(word)
+    }
+}
+
+/// In the faster second ways.
+pub struct Faster;
+
+impl Way for Faster {
+    fn failing(word: &[u8]) -> Option<Failing> {
+        failing_by_suffixes(word)
+    }
+
+    fn pieces(word: &[u8]) -> List {
+        pieces_by_fold(word)
+    }
+
+    fn strict(word: &[u8]) -> List {
+        strict_by_suffixes(word)
+    }
+
+    fn starts(word: &[u8]) -> List {
+        starts_by_suffixes(word)
+    }
+}
