@@ -15,9 +15,6 @@ pub record Looked (w : List ℕ) (marked : Bool) (i : ℕ) : Type 0 where
   pub inside : i ≤ length w
   pub same : (marked || has_mark (drop i w)) ≡ has_mark w
 
-pub looked-starts : (w : List ℕ) → Looked w false 0
-looked-starts w = record { inside = omega arith; same = refl }
-
 one_by_one : (a b c : Bool) → ((a || b) || c) ≡ (a || (b || c))
 one_by_one true b c = refl
 one_by_one false b c = refl

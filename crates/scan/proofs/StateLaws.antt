@@ -1,4 +1,5 @@
--- A step of the state is one letter more of the scan (stepped), and the letters that are still to be read (left-count, left-at).
+-- A step of the state is one letter more of the scan (stepped), so a loop that steps comes nearer to the word's end (nearer). The letters that are still to
+-- be read (left-count, left-at).
 use mathlib.Core.Path.{◌≡◌, refl}
 use mathlib.Core.Bool.{Bool, true, false}
 use mathlib.Core.List.{List}
@@ -26,6 +27,10 @@ stepped w s t h l m e = rw e (record { scanned = rw (add-one s.length) (go (eqb-
     go : {x : Bool} → Decides (get_or w s.length 0 ≡ get_or w s.border 0) x → Scanned w (suc s.length) (elim x [ true ↦ s.border + 1 | false ↦ 0 ])
     go (holds z) = rw (add-one s.border) (scanned-same h l z)
     go (fails z) = scanned-less h l (omega arith)
+
+pub nearer : (n : ℕ) (s t : Scan) (a b : ℕ) → s.length < n → t ≡ step_state s a b → n - t.length < n - s.length
+unfolding step_state
+nearer n s t a b l e = rw e (omega arith)
 
 -- the letters from a place on: how many, and which
 pub left-count : (w : List ℕ) (a : ℕ) → length (rest a w) ≡ length w - a

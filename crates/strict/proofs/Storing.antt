@@ -1,5 +1,5 @@
 -- The ends of the factors that are left are stored one after another: what is stored and what is left are all ends (Storing).
-use mathlib.Core.Path.{◌≡◌, refl, ap, sym, ◌∙◌}
+use mathlib.Core.Path.{◌≡◌, ap, sym, ◌∙◌}
 use mathlib.Core.List.{List, [], ◌∷◌, ◌++◌, append_assoc, append-nil}
 use Prim.Native.Nat.{ℕ, ◌+◌, ◌≤◌, ◌<◌}
 use native.Mathlib.Numerals.{add-one}
@@ -25,9 +25,6 @@ pub record Storing (all left buffer₀ buffer : List ℕ) (count : ℕ) : Type 0
   pub content : take count buffer ++ left ≡ all
   pub later : drop count buffer ≡ drop count buffer₀
   pub long : length buffer ≡ length buffer₀
-
-pub storing-starts : (all left buffer : List ℕ) → left ≡ all → Storing all left buffer buffer 0
-storing-starts all left buffer e = record { number = omega (arith, ap length e); content = e; later = refl; long = refl }
 
 module _ {all left buffer₀ buffer : List ℕ} {count : ℕ} (g : Storing all left buffer₀ buffer count) where
   module _ {end : ℕ} {left' : List ℕ} (e : left ≡ end ∷ left') (room : length all ≤ length buffer₀) where

@@ -5,9 +5,6 @@ use lib.ListN.{length}
 use Rattle.scan.proofs.StateLaws.{stepped, left-count, left-at}
 use Rattle.scan.proofs.scan_on.Goals as goal
 
-pub loop-new-init : goal.loop-new-init
-loop-new-init c = (c.requires.scanned, omega arith)
-
 pub returns-then-met-new : goal.returns-then-met-new
 returns-then-met-new c = record {
   scanned = c.loop-new.invariant.0;

@@ -1,10 +1,7 @@
 -- Each turn stores one end; the ends so far and those still to come are all ends.
 use native.Mathlib.Omega.{arith}
-use Rattle.strict.proofs.Storing.{ends_inside, storing-starts, storing_room, storing-end, storing-on, storing-ends}
+use Rattle.strict.proofs.Storing.{ends_inside, storing_room, storing-end, storing-on, storing-ends}
 use Rattle.strict.proofs.write_ends.Goals as goal
-
-pub loop-end-init : goal.loop-end-init
-loop-end-init c = rw c.into_iter-end-iterator.ensures.into_iter_gives (storing-starts _ _ _ c.of-end-items.ensures)
 
 pub overflow_cast-ends : goal.overflow_cast-ends
 overflow_cast-ends c =
