@@ -11,7 +11,8 @@ use lib.ListN.{length, take, drop, set, length-set, length-append}
 use Rattle.std.proofs.lemmas.List.{drop-drop}
 use lib.Seq.{sets, sets-eq, length-sets, set_comm}
 use Rattle.buffers.specs.Buffers.{written}
-use Rattle.text.specs.Writing.{WroteAt}
+use Rattle.text.specs.Writing.{WroteAt, Wrote}
+use Rattle.text.specs.declared.Page.{Page}
 
 sets-append : (vs l : List ℕ) (i : ℕ) (ws : List ℕ) → sets l i (vs ++ ws) ≡ sets (sets l i vs) (i + length vs) ws
 sets-append [] l i ws = rw (add-zero i)
@@ -49,6 +50,23 @@ pub wrote-part : (at : ℕ) (vs out part : List ℕ) → part ≡ vs → at + le
 wrote-part at vs out part e h =
     let z : at + length vs - at ≡ length vs = omega arith in
     record { place = refl; content = rw (e, z, drop-drop (length vs) at out) (sym (sets-eq vs out at h ∙ append_assoc (take at out) vs (drop (at + length vs) out))) }
+
+-- the same of a page
+pub page-then : {vs us : List ℕ} {p q r : Page} → Wrote vs p q → Wrote us q r → Wrote (vs ++ us) p r
+page-then x y = record { same = y.same ∙ x.same; text = wrote_then x.text y.text }
+
+pub page-none : (p : Page) → Wrote [] p p
+page-none p = record { same = refl; text = wrote_none p.at p.out.now }
+
+-- what has room behind a text has room after it
+pub record Room (n : ℕ) (p : Page) : Type 0 where
+  pub inside : p.at + n ≤ length p.out.now
+
+pub room-left : {vs : List ℕ} {n : ℕ} {p q : Page} → Wrote vs p q → Room (length vs + n) p → Room n q
+room-left x r = record { inside = omega (arith, r.inside, x.text.place, wrote-long x.text) }
+
+pub page-long : {vs : List ℕ} {p q : Page} → Wrote vs p q → length q.out.now ≡ length p.out.now
+page-long x = wrote-long x.text
 
 -- what is written from entry 0 on, as the buffer whole
 pub wrote-front : {vs out : List ℕ} {r : ℕ} {out' : List ℕ}
