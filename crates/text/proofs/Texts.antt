@@ -81,7 +81,8 @@ module _ (s t : ℕ) (numbers : List ℕ) (i : ℕ) where
   each_at l = rw (add-one i, drop-cons numbers i 0 l)
 
   pub each-length : i < length numbers
-      → length (each_after (s ∷ []) (t ∷ []) (drop i numbers)) ≡ suc (length (decimal (get_or numbers i 0)) + length (each_after (t ∷ []) (s ∷ []) (drop (i + 1) numbers)))
+      → length (each_after (s ∷ []) (t ∷ []) (drop i numbers))
+      ≡ suc (length (decimal (get_or numbers i 0)) + length (each_after (t ∷ []) (s ∷ []) (drop (i + 1) numbers)))
   each-length l = rw (each_at l, length-append)
 
   pub each-end : length numbers ≤ i → each_after (s ∷ []) (t ∷ []) (drop i numbers) ≡ []
