@@ -32,7 +32,10 @@ module _ {w : List ℕ} {s : Scan} (g : Bordered w s) where
   border-known l = record { scanned = scanned-border g.scanned (s.length - s.border) refl l; whole = refl }
 
   pub border-resumes : (t : Scan) → t ≡ start_state → Resumes (take s.border w) t
-  border-resumes t e = rw e (record { short = omega (arith, border-size, g.short, g.scanned.shorter, g.scanned.inside); scanned = scanned-one _ (rw border-size g.some) })
+  border-resumes t e = rw e (record {
+    short = omega (arith, border-size, g.short, g.scanned.shorter, g.scanned.inside);
+    scanned = scanned-one _ (rw border-size g.some);
+  })
 
   pub border-scanned : (t : Scan) → Rests (take s.border w) t → BorderScanned w s t
   border-scanned t r =
@@ -51,14 +54,22 @@ pub record Descends (w : List ℕ) (s : Scan) : Type 0 where
   pub last : last_word (cfl_in w) ≡ last_word (cfl_in (take s.length w))
 
 pub descend-begin : {w : List ℕ} {s : Scan} → ScannedWhole w s → Descends w s
-descend-begin {w} {s} f = record { short = f.short; scanned = f.scanned; last = ap (λ (x : List ℕ). last_word (cfl_in x)) (sym (take_all s.length w (omega (arith, f.whole)))) }
+descend-begin {w} {s} f = record {
+  short = f.short;
+  scanned = f.scanned;
+  last = ap (λ (x : List ℕ). last_word (cfl_in x)) (sym (take_all s.length w (omega (arith, f.whole))));
+}
 
 module _ {w : List ℕ} {s : Scan} (g : Descends w s) where
   pub descend-bordered : 0 < s.border → Bordered w s
   descend-bordered l = record { short = g.short; scanned = g.scanned; some = l }
 
   pub descend-on : (r : Scan) → 0 < s.border → BorderScanned w s r → Descends w r
-  descend-on r l b = record { short = g.short; scanned = b.scanned; last = g.last ∙ last-border g.scanned l ∙ ap (λ (n : ℕ). last_word (cfl_in (take n w))) (sym b.whole) }
+  descend-on r l b = record {
+    short = g.short;
+    scanned = b.scanned;
+    last = g.last ∙ last-border g.scanned l ∙ ap (λ (n : ℕ). last_word (cfl_in (take n w))) (sym b.whole);
+  }
 
   pub descend-less : (r : Scan) → BorderScanned w s r → r.length < s.length
   descend-less r b = omega (arith, b.whole, g.scanned.shorter)

@@ -25,21 +25,28 @@ module _ (m n : List ℕ) (j l : ℕ) (e : l ≡ common_length_of m n) where
     module _ (b : l < length n) where
       pub pair-exceeds : get_or n l 0 ≤ get_or m l 0 → j + l + 1 ≡ judged_pair m n j
       unfolding judged_by
-      pair-exceeds h = rw (← e) (rw (lt-leb (length m) l a, lt-leb (length n) l b, le-ltb (get_or m l 0) (get_or n l 0) h, judged_by) (omega arith))
+      pair-exceeds h =
+          rw (← e) (rw (lt-leb (length m) l a, lt-leb (length n) l b, le-ltb (get_or m l 0) (get_or n l 0) h, judged_by) (omega arith))
 
       module _ (c : get_or m l 0 < get_or n l 0) (z : ℕ) (f : z ≡ length (last_word (cfl_in m))) where
         pub pair-unbordered : length m ≤ z → 0 ≡ judged_pair m n j
         unfolding judged_by
-        pair-unbordered h = rw (← e, ← f) (rw (lt-leb (length m) l a, lt-leb (length n) l b, lt-ltb (get_or m l 0) (get_or n l 0) c, le-leb (length m) z h, judged_by))
+        pair-unbordered h =
+            rw (← e, ← f)
+            (rw (lt-leb (length m) l a, lt-leb (length n) l b, lt-ltb (get_or m l 0) (get_or n l 0) c, le-leb (length m) z h, judged_by))
 
         pub pair-border : z < length m → z ≤ l → j + l + 1 ≡ judged_pair m n j
         unfolding judged_by
         pair-border h k =
-            rw (← e, ← f) (rw (lt-leb (length m) l a, lt-leb (length n) l b, lt-ltb (get_or m l 0) (get_or n l 0) c, lt-leb (length m) z h, le-leb z l k, judged_by) (omega arith))
+            rw (← e, ← f)
+            (rw (lt-leb (length m) l a, lt-leb (length n) l b, lt-ltb (get_or m l 0) (get_or n l 0) c, lt-leb (length m) z h, le-leb z l k, judged_by)
+            (omega arith))
 
         pub pair-good : z < length m → l < z → 0 ≡ judged_pair m n j
         unfolding judged_by
-        pair-good h k = rw (← e, ← f) (rw (lt-leb (length m) l a, lt-leb (length n) l b, lt-ltb (get_or m l 0) (get_or n l 0) c, lt-leb (length m) z h, lt-leb z l k, judged_by))
+        pair-good h k =
+            rw (← e, ← f)
+            (rw (lt-leb (length m) l a, lt-leb (length n) l b, lt-ltb (get_or m l 0) (get_or n l 0) c, lt-leb (length m) z h, lt-leb z l k, judged_by))
 
       -- a last factor has a letter, so where the first letters differ it does not begin the next word
       pub pair-apart : get_or m l 0 < get_or n l 0 → l ≡ 0 → 0 ≡ judged_pair m n j

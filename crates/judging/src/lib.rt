@@ -72,8 +72,9 @@ fn judge_pair(part: &[u8], next: &[u8], end: usize, whole: Scan) -> Option<usize
     None
 }
 
-/// The part of the record from `first` to `end`, and it beside the next one, which ends at `next`; `next` is `end` where
-/// no part follows. How many letters of the record tell that no list with these ends is its own, if they do.
+/// The part of the record from `first` to `end`, and it beside the next one, which ends at `next`; as in the definition
+/// (judged_turn), `next` is `end` where no part follows. How many letters of the record tell that no list with these ends
+/// is its own, if they do.
 pub fn judge_turn(word: &[u8], first: usize, end: usize, next: usize) -> Option<usize>
     requires { Turn word.now first end next }
     ensures { Told (judged_turn word.now first end next) result }

@@ -1,5 +1,6 @@
 -- The listing of a record that is too long is that of a refusal, whatever its bytes are; and what the promise of a listing tells of the buffer.
-use Rattle.std.proofs.Common.{◌≡◌, ℕ, ◌<◌, ◌≤◌, List, [], ◌∷◌, ◌++◌, Bool, true, false, arith, ap, sym, ◌∙◌, refl, length, length-append, take, drop, append-nil}
+use Rattle.std.proofs.Common.{◌≡◌, ℕ, ◌<◌, ◌≤◌, List, [], ◌∷◌, ◌++◌, Bool, true, false, length, take, drop}
+use Rattle.std.proofs.Common.{arith, ap, sym, ◌∙◌, refl, length-append, append-nil}
 use Rattle.std.proofs.lemmas.Bool.{cases_lt}
 use Rattle.std.proofs.Math.Logic.{inl, inr}
 use lib.Seq.{take-append_seam}
@@ -32,4 +33,5 @@ same-listing w v none = elim (cases_lt 4096 (length w)) [
 -- the listing stands at the front of the buffer
 pub listed-text : {w work pairs strict out work' pairs' strict' out' : List ℕ} {r : ℕ} → Listed w work pairs strict out r work' pairs' strict' out'
     → take r out' ≡ listing_of w
-listed-text {w} {out = out} {out' = out'} d = ap (λ n. take n out') d.size ∙ ap (take _) d.text ∙ take-append_seam (listing_of w) (drop (length (listing_of w)) out)
+listed-text {w} {out = out} {out' = out'} d =
+    ap (λ n. take n out') d.size ∙ ap (take _) d.text ∙ take-append_seam (listing_of w) (drop (length (listing_of w)) out)

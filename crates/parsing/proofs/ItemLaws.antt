@@ -96,12 +96,6 @@ standing-at {s} {u} {t} {vs} {v = v} (Left.some {at = b} x) e = let same : b ≡
 no-place : {s u : ℕ} {t : List ℕ} {p : Option ℕ} {at : ℕ} → Left s u t p [] → p ≡ Some at → ⊥
 no-place Left.none e = cc
 
-pub given-end : (i : Items) → i.next ≡ None → ItemGiven i None i
-given-end i e = record { text = refl; some = λ l. absurd (placed l e); none = λ l. refl }
-  where
-    placed : {s u : ℕ} {t vs : List ℕ} {p : Option ℕ} {v : ℕ} → Left s u t p (v ∷ vs) → p ≡ None → ⊥
-    placed (Left.some x) e = cc
-
 module _ (i : Items) {at : ℕ} (e : i.next ≡ Some at) where
   pub given-none : number (drop at i.text.now) ≡ nothing → ItemGiven i None i
   given-none n = record { text = refl; some = λ l. absurd (item-some (standing-at l e) n); none = λ l. refl }

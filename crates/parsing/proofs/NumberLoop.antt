@@ -9,7 +9,8 @@ use lib.ListN.{length, take, drop, get_or, length-drop, drop_of_length-le}
 use lib.Seq.{take_all, get_or-drop, drop-cons}
 use Rattle.text.specs.Reading.{nothing, found, most_number, digit_value, digits_on, number}
 use Rattle.parsing.specs.Parsing.{NumberAt}
-use Rattle.text.proofs.Readers.{digit-below, digit-above, digits-end, digits-stop, digits-zero, digits-large, digits_more, number-none, number-other, number-first}
+use Rattle.text.proofs.Readers.{digit-below, digit-above, digits-end, digits-stop, digits-zero}
+use Rattle.text.proofs.Readers.{digits-large, digits_more, number-none, number-other, number-first}
 
 -- the digits before end are worth value, and what is left says what the number is
 pub record Digits (t : List ℕ) (at value end : ℕ) : Type 0 where

@@ -133,7 +133,7 @@ impl<'a> Iterator for Pairs<'a> {
         let end = self.items.next()?;
         let count = self.items.next()?;
         Some(Pair {
-            end: end as usize,
+            end: usize::from(end),
             count,
         })
     }

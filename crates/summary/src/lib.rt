@@ -27,7 +27,7 @@ pub struct Summary {
 pub fn bit_length(n: u16) -> usize
     ensures { result ≡ bit_length_of n }
 {
-    let zeros = u16::leading_zeros(n);
+    let zeros = n.leading_zeros();
     (16 - zeros) as usize
 }
 

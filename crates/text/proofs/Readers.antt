@@ -91,7 +91,8 @@ pub digits-large : (v c : ℕ) (x : List ℕ) → digit_value c ≤ 9 → ¬ (v 
 unfolding digits_on
 digits-large v c x h n l = rw (le-ltb 9 (digit_value c) h, ne_eqb v 0 n, lt-ltb most_number (10 * v + digit_value c) l, digits_on)
 
-pub digits_more : (v c : ℕ) (x : List ℕ) → digit_value c ≤ 9 → ¬ (v ≡ 0) → 10 * v + digit_value c ≤ most_number → digits_on v (c ∷ x) ≡ digits_on (10 * v + digit_value c) x
+pub digits_more : (v c : ℕ) (x : List ℕ) → digit_value c ≤ 9 → ¬ (v ≡ 0) → 10 * v + digit_value c ≤ most_number
+    → digits_on v (c ∷ x) ≡ digits_on (10 * v + digit_value c) x
 unfolding digits_on
 digits_more v c x h n l = rw (le-ltb 9 (digit_value c) h, ne_eqb v 0 n, le-ltb most_number (10 * v + digit_value c) l, digits_on)
 
@@ -141,7 +142,8 @@ digits-sound v [] n y h e =
     let a : v ≡ n = cc in
     let b : [] ≡ y = cc in
     rw (← a, ← b) (h, refl)
-digits-sound v (c ∷ x) n y h e = go (dec_lt 9 (digit_value c)) (ℕ_discrete v 0) (dec_lt most_number (10 * v + digit_value c)) (digits-sound (10 * v + digit_value c) x n y)
+digits-sound v (c ∷ x) n y h e =
+    go (dec_lt 9 (digit_value c)) (ℕ_discrete v 0) (dec_lt most_number (10 * v + digit_value c)) (digits-sound (10 * v + digit_value c) x n y)
   where
     go : Dec (9 < digit_value c) → Dec (v ≡ 0) → Dec (most_number < 10 * v + digit_value c)
         → (10 * v + digit_value c ≤ most_number → digits_on (10 * v + digit_value c) x ≡ found n y

@@ -4,14 +4,14 @@ use mathlib.Core.Path.{◌≡◌, refl, ap, sym, ◌∙◌}
 use mathlib.Core.List.{List, [], ◌∷◌, ◌++◌, append_assoc}
 use Prim.Native.Nat.{ℕ, suc, ◌+◌, ◌-◌, ◌≤◌}
 use native.Mathlib.Nat.{add-zero, add-suc, suc-add}
-use native.Mathlib.Numerals.{add-one}
 use native.Mathlib.Omega.{arith}
 use borrow.Rule.Slice.PartMut.{put_mid}
-use lib.ListN.{length, take, drop, set, length-set, length-append}
+use lib.ListN.{length, take, drop, set, length-append}
 use Rattle.std.proofs.lemmas.List.{drop-drop}
 use lib.Seq.{sets, sets-eq, length-sets, set_comm}
 use Rattle.buffers.specs.Buffers.{written}
-use Rattle.text.specs.Writing.{WroteAt}
+use Rattle.text.specs.Writing.{WroteAt, Wrote}
+use Rattle.text.specs.declared.Page.{Page}
 
 sets-append : (vs l : List ℕ) (i : ℕ) (ws : List ℕ) → sets l i (vs ++ ws) ≡ sets (sets l i vs) (i + length vs) ws
 sets-append [] l i ws = rw (add-zero i)
@@ -33,9 +33,6 @@ wrote-long {at} {vs} {out} x = rw x.content (length-sets out at vs)
 pub wrote_none : (at : ℕ) (out : List ℕ) → WroteAt at [] out at out
 wrote_none at out = record { place = omega arith; content = refl }
 
-pub wrote_one : (at a : ℕ) (out : List ℕ) → WroteAt at (a ∷ []) out (at + 1) (set out at a)
-wrote_one at a out = record { place = refl; content = refl }
-
 pub wrote_then : {at : ℕ} {vs us out : List ℕ} {m r : ℕ} {out₁ out₂ : List ℕ}
     → WroteAt at vs out m out₁ → WroteAt m us out₁ r out₂ → WroteAt at (vs ++ us) out r out₂
 wrote_then {at} {vs} {us} {out} x y = record {
@@ -48,7 +45,27 @@ pub wrote-part : (at : ℕ) (vs out part : List ℕ) → part ≡ vs → at + le
     → WroteAt at vs out (at + length vs) (put_mid at (at + length vs - at) out part)
 wrote-part at vs out part e h =
     let z : at + length vs - at ≡ length vs = omega arith in
-    record { place = refl; content = rw (e, z, drop-drop (length vs) at out) (sym (sets-eq vs out at h ∙ append_assoc (take at out) vs (drop (at + length vs) out))) }
+    record {
+      place = refl;
+      content = rw (e, z, drop-drop (length vs) at out) (sym (sets-eq vs out at h ∙ append_assoc (take at out) vs (drop (at + length vs) out)));
+    }
+
+-- the same of a page
+pub page-then : {vs us : List ℕ} {p q r : Page} → Wrote vs p q → Wrote us q r → Wrote (vs ++ us) p r
+page-then x y = record { same = y.same ∙ x.same; text = wrote_then x.text y.text }
+
+pub page-none : (p : Page) → Wrote [] p p
+page-none p = record { same = refl; text = wrote_none p.at p.out.now }
+
+-- what has room behind a text has room after it
+pub record Room (n : ℕ) (p : Page) : Type 0 where
+  pub inside : p.at + n ≤ length p.out.now
+
+pub room-left : {vs : List ℕ} {n : ℕ} {p q : Page} → Wrote vs p q → Room (length vs + n) p → Room n q
+room-left x r = record { inside = omega (arith, r.inside, x.text.place, wrote-long x.text) }
+
+pub page-long : {vs : List ℕ} {p q : Page} → Wrote vs p q → length q.out.now ≡ length p.out.now
+page-long x = wrote-long x.text
 
 -- what is written from entry 0 on, as the buffer whole
 pub wrote-front : {vs out : List ℕ} {r : ℕ} {out' : List ℕ}
@@ -68,9 +85,6 @@ pub left-all : (at : ℕ) (vs out : List ℕ) → Left at vs out at vs out
 left-all at vs out = record { place_is = refl; stores = refl; long = refl }
 
 module _ {at : ℕ} {vs out₀ : List ℕ} {place : ℕ} {out : List ℕ} where
-  pub left-byte : {a : ℕ} {rest : List ℕ} → Left at vs out₀ place (a ∷ rest) out → Left at vs out₀ (place + 1) rest (set out place a)
-  left-byte {a} g = record { place_is = omega (arith, g.place_is); stores = rw (add-one place) g.stores; long = length-set out place a ∙ g.long }
-
   pub left-text : {us rest : List ℕ} {r : ℕ} {out' : List ℕ} → Left at vs out₀ place (us ++ rest) out → WroteAt place us out r out'
       → Left at vs out₀ r rest out'
   left-text {us} {rest} g x = record {

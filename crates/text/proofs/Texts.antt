@@ -8,8 +8,9 @@ use native.Mathlib.Omega.{arith}
 use lib.ListN.{length, drop, get_or, set, length-set, length-append, drop_of_length-le}
 use lib.Seq.{sets, drop-cons}
 use Rattle.text.specs.Text.{decimal, each_after, list_by, comma_list, line}
-use Rattle.text.specs.Writing.{WroteAt}
-use Rattle.text.proofs.Stores.{sets_last, wrote_none, wrote_one, wrote_then, Left, left-byte}
+use Rattle.text.specs.Writing.{WroteAt, Wrote}
+use Rattle.text.specs.declared.Page.{Page}
+use Rattle.text.proofs.Stores.{sets_last, wrote_none, page-then}
 use Rattle.text.proofs.Decimals.{decimal-small, length-large, digits, length_digits, decimal-digits}
 
 -- ---- the number of digits
@@ -80,7 +81,8 @@ module _ (s t : ℕ) (numbers : List ℕ) (i : ℕ) where
   each_at l = rw (add-one i, drop-cons numbers i 0 l)
 
   pub each-length : i < length numbers
-      → length (each_after (s ∷ []) (t ∷ []) (drop i numbers)) ≡ suc (length (decimal (get_or numbers i 0)) + length (each_after (t ∷ []) (s ∷ []) (drop (i + 1) numbers)))
+      → length (each_after (s ∷ []) (t ∷ []) (drop i numbers))
+      ≡ suc (length (decimal (get_or numbers i 0)) + length (each_after (t ∷ []) (s ∷ []) (drop (i + 1) numbers)))
   each-length l = rw (each_at l, length-append)
 
   pub each-end : length numbers ≤ i → each_after (s ∷ []) (t ∷ []) (drop i numbers) ≡ []
@@ -97,7 +99,7 @@ pub line-length : (key value : List ℕ) → length (line key value) ≡ length 
 unfolding line
 line-length key value = simp length-append (omega arith)
 
-pub line_wrote : {at p q : ℕ} {key value out out₁ out₂ : List ℕ} → WroteAt at key out p out₁ → WroteAt (p + 1) value (set out₁ p 61) q out₂
-    → WroteAt at (line key value) out (q + 1) (set out₂ q 10)
+pub line-wrote : {key value : List ℕ} {p q r s t : Page} → Wrote key p q → Wrote (61 ∷ []) q r → Wrote value r s → Wrote (10 ∷ []) s t
+    → Wrote (line key value) p t
 unfolding line
-line_wrote {p = p} {q = q} {out₁ = out₁} {out₂ = out₂} x y = wrote_then (wrote_then (wrote_then x (wrote_one p 61 out₁)) y) (wrote_one q 10 out₂)
+line-wrote x y z w = page-then (page-then (page-then x y) z) w

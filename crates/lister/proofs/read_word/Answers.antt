@@ -6,4 +6,5 @@ use Rattle.lister.proofs.read_word.Goals as goal
 pub loop-done-preserved : goal.loop-done-preserved
 loop-done-preserved g c =
     let came = c.in_ok-more.ensures in
-    (omega (arith, came.within), search rules, consumes-behind _ _ _ _ _ _ _ _ c.loop-done.invariant.0 (omega (arith, came.within)) c.loop-done.invariant.2 came.read.0)
+    let g = c.loop-done.invariant in
+    (omega (arith, came.within), search rules, consumes-behind _ _ _ _ _ _ _ _ g.0 (omega (arith, came.within)) g.2 came.read.0)

@@ -1,6 +1,7 @@
 use native.Mathlib.Omega.{arith}
 use Rattle.theory.specs.Orders.Decisions.{decides-true, decides-false}
-use Rattle.matching.proofs.PairsLoop.{first-none, first-zero, first-far, walk-begin, next_low, next-far, next-turn, next-faulty, next-on, last-short, last_turn, last-decides}
+use Rattle.matching.proofs.PairsLoop.{first-none, first-zero, first-far, walk-begin}
+use Rattle.matching.proofs.PairsLoop.{next_low, next-far, next-turn, next-faulty, next-on, last-short, last_turn, last-decides}
 use Rattle.matching.proofs.pairs_are.Goals as goal
 
 pub returns-in_default : goal.returns-in_default

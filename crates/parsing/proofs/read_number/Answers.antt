@@ -1,7 +1,8 @@
 -- The first digit, then one more in each turn; what is left of the text says what the number is (Digits).
 use Prim.Native.Nat.{◌+◌}
 use native.Mathlib.Omega.{arith}
-use Rattle.parsing.proofs.NumberLoop.{none_left, none_first, digits-begin, byte_at, byte_none, digits-done, digits-read, digits-leading, digits_above, digits-on}
+use Rattle.parsing.proofs.NumberLoop.{none_left, none_first, digits-begin, byte_at, byte_none}
+use Rattle.parsing.proofs.NumberLoop.{digits-done, digits-read, digits-leading, digits_above, digits-on}
 use Rattle.parsing.proofs.read_number.Goals as goal
 
 pub returns-in_err-first : goal.returns-in_err-first
@@ -45,5 +46,6 @@ loop-byte-preserved c =
 
 pub returns : goal.returns
 returns c =
-    digits-done c.loop-byte.invariant.0
-    (byte_none c.args.text.now (c.args.at + 1) c.loop-byte.byte-index _ c.loop-byte.invariant.1 c.loop-byte-test.false (omega (arith, c.in_ok-first.ensures.lookup.3.0)))
+    let inside = c.in_ok-first.ensures.lookup.3.0 in
+    let end = byte_none c.args.text.now (c.args.at + 1) c.loop-byte.byte-index _ c.loop-byte.invariant.1 c.loop-byte-test.false (omega (arith, inside)) in
+    digits-done c.loop-byte.invariant.0 end
