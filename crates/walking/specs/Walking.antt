@@ -4,6 +4,7 @@ use Rattle.buffers.specs.Buffers.{written}
 use Rattle.words.specs.Words.{most_letters}
 use Rattle.words.specs.Separated.{separator}
 use Rattle.words.specs.Runs.{Triple, moved_run, separated_runs}
+use Rattle.theory.specs.Repetitions.TwoOrders.{UpTo}
 use Rattle.theory.specs.Repetitions.Found.{found_up_to}
 use Rattle.theory.specs.Repetitions.Insertion.{InOrder, insert_run, sort_into}
 use Rattle.inserting.specs.Entries.{entries_of_runs}
@@ -35,6 +36,7 @@ all_found w = found_up_to most_byte w (length w - 1)
 
 -- the stretch w begins at `from` of a record; what is found in it gets into the list of the first `count` runs
 pub record VisitRoom (w longest : List ℕ) (from : ℕ) (out : List ℕ) (count : ℕ) (store : Bool) (found : List Triple) : Type 0 where
+  pub bytes : UpTo most_byte w
   pub short : from + length w ≤ most_letters
   pub filled : LongestFilled w longest
   pub few : count + length found ≤ most_letters
