@@ -18,7 +18,8 @@ use Rattle.letters.specs.Steps.{sign_of, PrefixSign, PrefixOrdered, PartedAt, Or
 pub letters-ordered : {x y : List ℕ} {l : ℕ} (r : Ordering) → PartedAt x y l → r ≡ nat_cmp (get_or y l 0) (get_or x l 0) → SignOfWords x y (sign_of r)
 letters-ordered {x} {y} {l} r p e = go r (ranked (get_or y l 0) (get_or x l 0) r e)
   where
-    go : (r : Ordering) → MatchOrdering r (get_or y l 0 < get_or x l 0) (get_or y l 0 ≡ get_or x l 0) (get_or x l 0 < get_or y l 0) → SignOfWords x y (sign_of r)
+    go : (r : Ordering) → MatchOrdering r (get_or y l 0 < get_or x l 0) (get_or y l 0 ≡ get_or x l 0) (get_or x l 0 < get_or y l 0)
+        → SignOfWords x y (sign_of r)
     go Less h = before (mismatch (agree-≪-sym p.agree p.left p.right (omega arith)))
     go Equal h = absurd (p.agree.differ p.left p.right (sym h))
     go Greater h = after (mismatch (agree-≪ p.agree p.left p.right h))

@@ -5,7 +5,7 @@ use Rattle.words.specs.Words.{most_letters}
 use Rattle.words.specs.Separated.{separator}
 use Rattle.words.specs.Runs.{Triple, moved_run, separated_runs}
 use Rattle.theory.specs.Repetitions.TwoOrders.{UpTo}
-use Rattle.theory.specs.Repetitions.Found.{found_up_to}
+use Rattle.theory.specs.Repetitions.Found.{found_at, found_up_to}
 use Rattle.theory.specs.Repetitions.Insertion.{InOrder, insert_run, sort_into}
 use Rattle.inserting.specs.Entries.{entries_of_runs}
 use Rattle.inserting.specs.Inserting.{triple, triples, InsertAsked}
@@ -42,6 +42,10 @@ pub record VisitRoom (w longest : List ℕ) (from : ℕ) (out : List ℕ) (count
   pub few : count + length found ≤ most_letters
   pub room : store ≡ true → 3 * (count + length found) ≤ length out
   pub in_order : store ≡ true → InOrder (triples count out)
+
+-- so does what is found at one of its places, which is not the first
+abbrev pub PlaceRoom : List ℕ → List ℕ → ℕ → ℕ → List ℕ → ℕ → Bool → Type 0
+PlaceRoom w longest i from out count store = (0 < i) × (i < length w) × VisitRoom w longest from out count store (found_at most_byte w i)
 
 abbrev pub Visited : ℕ → List ℕ → ℕ → Bool → List Triple → ℕ → List ℕ → Type 0
 Visited from out count store found r out' = Listed (sort_into (triples count out) (map (moved_run from) found)) out store r out'

@@ -7,7 +7,7 @@ ghost use Rattle.std.specs.Prelude.{◌≡◌, ◌<◌, length, true, false};
 ghost use Rattle.words.specs.Runs.{separated_runs};
 ghost use Rattle.theory.specs.Repetitions.Found.{found_at};
 ghost use Rattle.common.specs.Orders.{most_byte};
-ghost use Rattle.walking.specs.Walking.{all_found, VisitRoom, Visited, StretchEnds, WalkRoom, Walked, CountRoom, ListRoom, RunsListed};
+ghost use Rattle.walking.specs.Walking.{all_found, VisitRoom, PlaceRoom, Visited, StretchEnds, WalkRoom, Walked, CountRoom, ListRoom, RunsListed};
 
 use found::run_at;
 use inserting::Run;
@@ -24,7 +24,7 @@ struct Stretch<'a> {
 
 // One place of a stretch: answers the number of runs, which was `count` before.
 fn visit_place<S: Sink>(stretch: Stretch<'_>, i: usize, runs: &mut [u16], count: usize) -> usize
-    requires { (0 < i) × (i < length stretch.word.now) × VisitRoom stretch.word.now stretch.longest.now stretch.from runs.old count S.stores (found_at most_byte stretch.word.now i) }
+    requires { PlaceRoom stretch.word.now stretch.longest.now i stretch.from runs.old count S.stores }
     ensures { Visited stretch.entry.from runs.old count S.stores (found_at most_byte stretch.entry.word.now i) result runs.new }
 {
     match run_at(stretch.word, stretch.longest, i) {
