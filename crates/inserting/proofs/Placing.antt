@@ -65,9 +65,6 @@ module _ (xs : List ℕ) (count : ℕ) (r : Triple) (asked : InsertRoom xs count
         let s : k ≡ suc (k - 1) = omega arith in
         rw e (behind (k - 1) (omega (arith, a.inside)) (rw s at a) h)
 
-    pub ahead-ends : k ≡ 0 → Belongs xs count r 0
-    ahead-ends z = record { inside = omega arith; belongs = rw z at a.ahead }
-
 -- ---- the run written at its place
 
 module _ (xs : List ℕ) (count : ℕ) (r : Triple) (k : ℕ) (asked : InsertRoom xs count) (at : Belongs xs count r k) where

@@ -36,7 +36,9 @@ module _ (w : List ℕ) (b : UpTo most_byte w) (j : ℕ) (l : j < length w) wher
   length-in true h = sym ((longest-rises most_byte w b j l).0 h)
   length-in false h = sym ((longest-falls most_byte w b j l).0 h)
 
-  pub length-other : (natural : Bool) → ¬ Precedes natural (get_or w j 0) (get_or w (j + longer_entry most_byte w j - 1) 0) → 1 ≡ entry_at (in_order natural w) j
+  pub length-other : (natural : Bool)
+      → ¬ Precedes natural (get_or w j 0) (get_or w (j + longer_entry most_byte w j - 1) 0)
+      → 1 ≡ entry_at (in_order natural w) j
   length-other true h = sym ((longest-rises most_byte w b j l).1 (omega arith))
   length-other false h = sym ((longest-falls most_byte w b j l).1 (omega arith))
 
@@ -78,7 +80,8 @@ module _ (w : List ℕ) (b : UpTo most_byte w) (i : ℕ) (n : i + 1 < length w) 
       go (fails h) = natural-alone (omega arith) (λ e. absurd (d e))
 
   -- it is the same: the last letter of the longer word there decides
-  pub same-alone : get_or w (i + 1) 0 ≡ get_or w i 0 → entry_at (in_order (not (ltb (get_or w i 0) (get_or w (i + longer_entry most_byte w (i + 1)) 0))) w) i ≡ 1
+  pub same-alone : get_or w (i + 1) 0 ≡ get_or w i 0
+      → entry_at (in_order (not (ltb (get_or w i 0) (get_or w (i + longer_entry most_byte w (i + 1)) 0))) w) i ≡ 1
   same-alone e = go (leb-test (suc (get_or w i 0)) (get_or w (i + longer_entry most_byte w (i + 1)) 0))
     where
       last : get_or w (i + 1 + longer_entry most_byte w (i + 1) - 1) 0 ≡ get_or w (i + longer_entry most_byte w (i + 1)) 0

@@ -45,8 +45,8 @@ fn longest_from(word: &[u8], lengths: &[u16], i: usize, from: usize) -> usize
     j - i
 }
 
-// Entry i of the table, from the entries after it; `next` is the first of them, 0 if there is none. That the first word
-// reaches to the end is asked before the loop, which a falling record then never enters.
+// Entry i of the table, from the entries after it; `next` is the first of them, 0 past the last letter, where the word is
+// empty. That the first word reaches to the end is asked before the loop, which a falling record then never enters.
 fn longest_at(word: &[u8], lengths: &[u16], i: usize, next: usize) -> usize
     requires { NextKnown word.now lengths.now i next }
     ensures { result ≡ get_or (separated_table word.now) i 0 }

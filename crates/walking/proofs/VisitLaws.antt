@@ -1,4 +1,4 @@
--- Runs that are counted and, where they are to be stored, put into the list of the buffer: none (list_same), one (visit-counts, visit-stores), more after
+-- Runs that are counted and, where they are to be stored, put into the list of the buffer: none (list_same), one (visit-puts), more after
 -- others (list-after). What is found at a place fits (run_fits). The loop over the places of a stretch (Visiting).
 use mathlib.Core.Path.{◌≡◌, refl, ap, sym, ◌∙◌}
 use mathlib.Core.Bool.{Bool, true}
@@ -12,7 +12,6 @@ use Rattle.buffers.specs.Buffers.{written}
 use Rattle.buffers.proofs.BufferLaws.{written_over}
 use Rattle.words.specs.Runs.{Triple, moved_run}
 use Rattle.theory.specs.RunStatements.{IsRun}
-use Rattle.theory.specs.Repetitions.TwoOrders.{UpTo}
 use Rattle.theory.specs.Repetitions.Found.{found_at, found_up_to}
 use Rattle.theory.specs.Repetitions.Found.{found-next, found-more}
 use Rattle.theory.proofs.Repetitions.Serving.{found-serves}
@@ -60,10 +59,10 @@ module _ {w longest out : List ℕ} {from count : ℕ} {store : Bool} {found : L
   place-known {i} o l = record { after = o; known = record { inside = l; room = v.filled.room; entry = v.filled.entries i l } }
 
   -- a run that is found lies in the word
-  pub run_fits : {i : ℕ} {run : Run} → UpTo most_byte w → 0 < i → i < length w → triple run ∷ [] ≡ found_at most_byte w i
+  pub run_fits : {i : ℕ} (run : Run) → 0 < i → i < length w → triple run ∷ [] ≡ found_at most_byte w i
       → RunFits (record { first = from + run.first; end = from + run.end; period = run.period })
-  run_fits {i} {run} b o l e =
-      let r : IsRun w (triple run) = (found-serves most_byte w b (triple run) i o l (rw (← e) (Memᴰ.head refl))).0 in
+  run_fits {i} run o l e =
+      let r : IsRun w (triple run) = (found-serves most_byte w v.bytes (triple run) i o l (rw (← e) (Memᴰ.head refl))).0 in
       record {
         first_fits = omega (arith, v.short, r.inside, r.twice);
         end_fits = omega (arith, v.short, r.inside);
@@ -118,6 +117,7 @@ module _ {w longest out₀ : List ℕ} {from count : ℕ} {store : Bool} (v : Vi
 
     pub visit-asks : i < length w → VisitRoom w longest from out total store (found_at most_byte w i)
     visit-asks l = record {
+      bytes = v.bytes;
       short = v.short;
       filled = v.filled;
       few = omega (arith, visit-few l, v.few);

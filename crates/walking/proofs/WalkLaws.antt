@@ -127,6 +127,7 @@ module _ {w out₀ out : List ℕ} {store : Bool} {count from : ℕ} (g : Walkin
     pub walk-asks : {longest₀ longest : List ℕ} → WalkRoom w longest₀ out₀ store → LongestFilled (part from e w) longest
         → VisitRoom (part from e w) longest from out count store (all_found (part from e w))
     walk-asks a f = record {
+      bytes = stretch-bytes s b;
       short = omega (arith, a.short, stretch-length s, s.free.inside, s.free.after);
       filled = f;
       few = omega (arith, walk-few, separated-runs-few w, a.short);

@@ -4,7 +4,8 @@ use Rattle.buffers.specs.Buffers.{written}
 use Rattle.words.specs.Words.{most_letters}
 use Rattle.words.specs.Separated.{separator}
 use Rattle.words.specs.Runs.{Triple, moved_run, separated_runs}
-use Rattle.theory.specs.Repetitions.Found.{found_up_to}
+use Rattle.theory.specs.Repetitions.TwoOrders.{UpTo}
+use Rattle.theory.specs.Repetitions.Found.{found_at, found_up_to}
 use Rattle.theory.specs.Repetitions.Insertion.{InOrder, insert_run, sort_into}
 use Rattle.inserting.specs.Entries.{entries_of_runs}
 use Rattle.inserting.specs.Inserting.{triple, triples, InsertAsked}
@@ -35,11 +36,16 @@ all_found w = found_up_to most_byte w (length w - 1)
 
 -- the stretch w begins at `from` of a record; what is found in it gets into the list of the first `count` runs
 pub record VisitRoom (w longest : List ℕ) (from : ℕ) (out : List ℕ) (count : ℕ) (store : Bool) (found : List Triple) : Type 0 where
+  pub bytes : UpTo most_byte w
   pub short : from + length w ≤ most_letters
   pub filled : LongestFilled w longest
   pub few : count + length found ≤ most_letters
   pub room : store ≡ true → 3 * (count + length found) ≤ length out
   pub in_order : store ≡ true → InOrder (triples count out)
+
+-- so does what is found at one of its places, which is not the first
+abbrev pub PlaceRoom : List ℕ → List ℕ → ℕ → ℕ → List ℕ → ℕ → Bool → Type 0
+PlaceRoom w longest i from out count store = (0 < i) × (i < length w) × VisitRoom w longest from out count store (found_at most_byte w i)
 
 abbrev pub Visited : ℕ → List ℕ → ℕ → Bool → List Triple → ℕ → List ℕ → Type 0
 Visited from out count store found r out' = Listed (sort_into (triples count out) (map (moved_run from) found)) out store r out'

@@ -7,31 +7,32 @@ ghost use Rattle.std.specs.Prelude.{◌≡◌, ◌<◌, length, true, false};
 ghost use Rattle.words.specs.Runs.{separated_runs};
 ghost use Rattle.theory.specs.Repetitions.Found.{found_at};
 ghost use Rattle.common.specs.Orders.{most_byte};
-ghost use Rattle.walking.specs.Walking.{all_found, VisitRoom, Visited, StretchEnds, WalkRoom, Walked, CountRoom, ListRoom, RunsListed};
+ghost use Rattle.walking.specs.Walking.{all_found, VisitRoom, PlaceRoom, Visited, StretchEnds, WalkRoom, Walked, CountRoom, ListRoom, RunsListed};
 
 use found::run_at;
 use inserting::Run;
 use longest::fill_longest;
 use sink::{Count, List, Sink};
 
-// One place of the stretch that begins at `from`: answers the number of runs, which was `count` before.
-fn visit_place<S: Sink>(
-    word: &[u8],
-    longest: &[u16],
-    i: usize,
+// A stretch of the record, the longest Lyndon words at its places, and where it begins.
+#[derive(Clone, Copy)]
+struct Stretch<'a> {
+    word: &'a [u8],
+    longest: &'a [u16],
     from: usize,
-    runs: &mut [u16],
-    count: usize,
-) -> usize
-    requires { (0 < i) × (i < length word.now) × VisitRoom word.now longest.now from runs.old count S.stores (found_at most_byte word.now i) }
-    ensures { Visited from runs.old count S.stores (found_at most_byte word.now i) result runs.new }
+}
+
+// One place of a stretch: answers the number of runs, which was `count` before.
+fn visit_place<S: Sink>(stretch: Stretch<'_>, i: usize, runs: &mut [u16], count: usize) -> usize
+    requires { PlaceRoom stretch.word.now stretch.longest.now i stretch.from runs.old count S.stores }
+    ensures { Visited stretch.entry.from runs.old count S.stores (found_at most_byte stretch.entry.word.now i) result runs.new }
 {
-    match run_at(word, longest, i) {
+    match run_at(stretch.word, stretch.longest, i) {
         None => count,
         Some(found) => {
             let run = Run {
-                first: from + found.first,
-                end: from + found.end,
+                first: stretch.from + found.first,
+                end: stretch.from + found.end,
                 period: found.period,
             };
             S::put(runs, count, run);
@@ -40,20 +41,14 @@ fn visit_place<S: Sink>(
     }
 }
 
-// All places of that stretch.
-fn visit<S: Sink>(
-    word: &[u8],
-    longest: &[u16],
-    from: usize,
-    runs: &mut [u16],
-    count: usize,
-) -> usize
-    requires { VisitRoom word.now longest.now from runs.old count S.stores (all_found word.now) }
-    ensures { Visited from runs.old count S.stores (all_found word.now) result runs.new }
+// All places of a stretch.
+fn visit<S: Sink>(stretch: Stretch<'_>, runs: &mut [u16], count: usize) -> usize
+    requires { VisitRoom stretch.word.now stretch.longest.now stretch.from runs.old count S.stores (all_found stretch.word.now) }
+    ensures { Visited stretch.entry.from runs.old count S.stores (all_found stretch.entry.word.now) result runs.new }
 {
     let mut total = count;
-    for i in 1..word.len() {
-        total = visit_place::<S>(word, longest, i, from, runs, total);
+    for i in 1..stretch.word.len() {
+        total = visit_place::<S>(stretch, i, runs, total);
     }
     total
 }
@@ -80,9 +75,13 @@ fn walk<S: Sink>(word: &[u8], longest: &mut [u16], runs: &mut [u16]) -> usize
     let mut from: usize = 0;
     while from < word.len() {
         let end = stretch_end(word, from);
-        let stretch = &word[from..end];
-        fill_longest(stretch, longest);
-        count = visit::<S>(stretch, longest, from, runs, count);
+        fill_longest(&word[from..end], longest);
+        let stretch = Stretch {
+            word: &word[from..end],
+            longest: &*longest,
+            from,
+        };
+        count = visit::<S>(stretch, runs, count);
         from = end + 1;
     }
     count

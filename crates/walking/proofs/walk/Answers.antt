@@ -1,6 +1,5 @@
 -- The runs of the stretches before `from` are in the list; a turn adds those of the stretch that begins there.
 use mathlib.Core.Path.{refl, ◌∙◌}
-use native.Mathlib.Omega.{arith}
 use Rattle.common.proofs.InOrderLaws.{bytes}
 use Rattle.walking.proofs.WalkLaws.{walk_begins, walk-asks, walk_turn, walk_ends}
 use Rattle.walking.proofs.walk.Goals as goal
@@ -9,9 +8,7 @@ pub loop-from-init : goal.loop-from-init
 loop-from-init g c = (refl, walk_begins _ _ _)
 
 pub visit-count-requires : goal.visit-count-requires
-visit-count-requires g c =
-    let asked = walk-asks c.loop-from.invariant.1 c.stretch_end-end.ensures (bytes _ c.type_inv.word) c.requires c.fill_longest.ensures in
-    record { short = omega (arith, asked.short); filled = asked.filled; few = asked.few; room = asked.room; in_order = asked.in_order }
+visit-count-requires g c = walk-asks c.loop-from.invariant.1 c.stretch_end-end.ensures (bytes _ c.type_inv.word) c.requires c.fill_longest.ensures
 
 pub loop-from-preserved : goal.loop-from-preserved
 loop-from-preserved g c =
