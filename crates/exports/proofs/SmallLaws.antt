@@ -6,7 +6,7 @@ use mathlib.Core.List.{List, [], ◌∷◌, ◌++◌}
 use Prim.Native.Nat.{ℕ, zero, suc, ◌≤◌}
 use native.Mathlib.Omega.{arith}
 use lib.ListN.{length, get_or}
-use Rattle.std.specs.Prelude.{Result}
+use Rattle.std.specs.Prelude.{Result, Ok, Err, None, Some}
 use Rattle.words.specs.Separated.{separated_icfl_ends, separated_breaks}
 use Rattle.theory.specs.Orders.CommonWithin.{common-within-short}
 use Rattle.theory.specs.Places.EndsRise.{rises-few}
@@ -16,27 +16,26 @@ use Rattle.theory.specs.Stretches.StretchBreaks.{separated-breaks-few}
 use Rattle.theory.proofs.Stretches.SeparatedRuns.{separated-runs-few}
 use Rattle.conditions.proofs.RecordEndsLaws.{listed}
 use Rattle.checks.specs.Lines.{Line, Door, tried, decided, ◌unless◌then◌, Accepted, Checked, Passed, Refused}
-use Rattle.checks.specs.Doors.{Guards}
 use Rattle.checks.specs.Answers.{Says, gives, refuses, count_says}
 use Rattle.checks.specs.declared.refusals.Refusal.{Refusal}
 use Rattle.checks.proofs.LineLaws.{both-passed, unmet}
 use Rattle.checks.proofs.RecordLaws.{accepted}
-use Rattle.extension.specs.declared.Extension.{Extension}
-use Rattle.extension.specs.Extension.{test_says, verdict_of, extension_lines, ExtensionFound}
+use Rattle.extension.specs.Extension.{TestAnswer, test_says, verdict_of, extension_lines, ExtensionFound}
 use Rattle.extension.proofs.VerdictLaws.{fails-told}
 use Rattle.icfl.specs.Icfl.{icfl_lines, icfl_answer, IcflDone}
-use Rattle.icfl_breaks.specs.declared.CountedBreaks.{CountedBreaks}
-use Rattle.icfl_breaks.specs.IcflBreaks.{breaks_lines, breaks_says, BreaksDone}
+use Rattle.icfl_breaks.specs.IcflBreaks.{BreaksAnswer, breaks_lines, breaks_says, BreaksDone}
 use Rattle.cfl.specs.CflIn.{cfl_in_lines, CflInDone}
 use Rattle.table.specs.Table.{table_lines, Tabled}
 use Rattle.runs.specs.Runs.{runs_lines, RunsDone}
-use Rattle.compare.specs.declared.suffixes.Comparison.{Comparison}
-use Rattle.compare.specs.Compare.{comparison_says, compare_lines, order_of, Compared}
-use Rattle.batch.specs.declared.Batch.{Batch}
-use Rattle.batch.specs.Batch.{records_from, uncut, batch_of, batch_says, batch_with, batch_lines, BatchDone}
+use Rattle.compare.specs.Compare.{ComparisonAnswer, comparison_says, compare_lines, order_of, Compared}
+use Rattle.batch.specs.Batch.{BatchAnswer, records_from, uncut, batch_of, batch_says, batch_with, batch_lines, BatchDone}
 use Rattle.batch.proofs.FoldLaws.{batch-answers, batch-count, Every, every-added}
 use Rattle.exports.specs.Exports.{export_door}
 use Rattle.numbers.specs.Numbers.{SmallCount, SmallTest, SmallBreaks, SmallComparison, SmallBatch}
+
+-- only an accepted record passes these lines
+abbrev pub Guards : List Line → List ℕ → Type 0
+Guards door w = tried door ≡ Passed → Accepted w
 
 -- of an accepted record, which is short, no number in an answer is above its length; and only such a one passes an exported function's door
 pub guarded : (w : List ℕ) → Guards (export_door w) w
@@ -79,7 +78,7 @@ runs-small door w out g f = count_small door (runs_lines w (length out)) w g (se
 
 -- ---- the cut with breaks
 
-pub breaks-small : {door : List Line} {w work pairs breaks work' pairs' breaks' : List ℕ} {r : CountedBreaks} → Guards door w
+pub breaks-small : {door : List Line} {w work pairs breaks work' pairs' breaks' : List ℕ} {r : BreaksAnswer} → Guards door w
     → BreaksDone door w work pairs breaks r work' pairs' breaks' → SmallBreaks (breaks_says r)
 breaks-small {door} {w} {work} {pairs} {breaks} g f =
     let own = breaks_lines w (length work) (length pairs) (length breaks) in
@@ -90,14 +89,14 @@ breaks-small {door} {w} {work} {pairs} {breaks} g f =
 
 -- ---- the test
 
-verdict-small : (w : List ℕ) (r : Extension) → Accepted w → test_says r ≡ gives (verdict_of w) → SmallTest (test_says r)
-verdict-small w Extension.InverseLyndon a e = (omega arith, omega arith, omega arith)
-verdict-small w (Extension.Failing l p r) a e =
-    let v = fails-told w l p r a.nonempty e in
+verdict-small : (w : List ℕ) (r : TestAnswer) → Accepted w → test_says r ≡ gives (verdict_of w) → SmallTest (test_says r)
+verdict-small w (Ok None) a e = (omega arith, omega arith, omega arith)
+verdict-small w (Ok (Some x)) a e =
+    let v = fails-told w x.failing x.prefix x.border a.nonempty e in
     (omega (arith, v.upto, a.short), omega (arith, v.inside, a.short), omega (arith, v.inside, a.short))
-verdict-small w (Extension.Refused number) a e = (omega arith, omega arith, omega arith)
+verdict-small w (Err refusal) a e = (omega arith, omega arith, omega arith)
 
-pub test-small : {door : List Line} {w work work' : List ℕ} {r : Extension} → Guards door w → ExtensionFound door w work r work' → SmallTest (test_says r)
+pub test-small : {door : List Line} {w work work' : List ℕ} {r : TestAnswer} → Guards door w → ExtensionFound door w work r work' → SmallTest (test_says r)
 test-small {door} {w} {work} {r = r} g f = go (tried (door ++ own)) refl f.answer
   where
     own : List Line
@@ -109,7 +108,7 @@ test-small {door} {w} {work} {r = r} g f = go (tried (door ++ own)) refl f.answe
 
 -- ---- the comparison
 
-pub comparison-small : {door : List Line} {w : List ℕ} {first end start other : ℕ} {r : Comparison} → Guards door w → Compared door w first end start other r
+pub comparison-small : {door : List Line} {w : List ℕ} {first end start other : ℕ} {r : ComparisonAnswer} → Guards door w → Compared door w first end start other r
     → SmallComparison (comparison_says r)
 comparison-small {door} {w} {first} {end} {start} {other} g f =
     let own = compare_lines (length w) first end start other in
@@ -124,7 +123,7 @@ each-small [] h i = omega arith
 each-small (a ∷ answers) h zero = h.0
 each-small (a ∷ answers) h (suc i) = each-small answers h.1 i
 
-pub batch-small : {door : Door} {bytes es work pairs work' pairs' : List ℕ} {r : Batch} → ((w : List ℕ) → Guards (door w) w)
+pub batch-small : {door : Door} {bytes es work pairs work' pairs' : List ℕ} {r : BatchAnswer} → ((w : List ℕ) → Guards (door w) w)
     → BatchDone door bytes es work pairs r work' pairs' → SmallBatch r (length es)
 batch-small {door} {bytes} {es} {work} {pairs} {r = r} g f = go (tried lines) refl f.answer
   where

@@ -13,12 +13,23 @@ ghost use Rattle.table.specs.Table.{Tabled};
 ghost use Rattle.runs.specs.Runs.{RunsDone};
 ghost use Rattle.compare.specs.Compare.{Compared};
 ghost use Rattle.summary.specs.Summary.{Summarized};
-ghost use Rattle.numbers.specs.Numbers.{test_numbers, count_numbers, breaks_numbers, batch_numbers, comparison_numbers};
-ghost use Rattle.exports.specs.Exports.{export_door, Gives, factor_numbers};
+ghost use Rattle.numbers.specs.Numbers.{test_numbers, count_numbers, breaks_numbers, batch_numbers, comparison_numbers, summary_numbers};
+ghost use Rattle.exports.specs.Exports.{export_door, Gives, factor_numbers, place_numbers};
 
-use checks::Checked;
-use numbers::Replies;
-use summary::Summary;
+use checks::{Record, Refusal};
+use numbers::{Replies, SummaryReply};
+
+// Where part `number` begins and ends.
+fn places_of(word: &[u8], pairs: &[u16], number: usize) -> Result<(u16, u16), Refusal>
+    ensures { place_numbers result ≡ factor_numbers (export_door word.now) word.now pairs.now number }
+{
+    let record = Record::admit(word)?;
+    checks::check_part(pairs, record.letters.len(), number)?;
+    Ok((
+        pairs::factor_from(pairs, number),
+        pairs::factor_end(pairs, number),
+    ))
+}
 
 pub fn metsroeb_test(
     word: &[u8],
@@ -123,19 +134,23 @@ pub fn metsroeb_factor(
     ensures { (result, first.new, end.new)
         ≡ factor_numbers (export_door word.now) word.now pairs.now number }
 {
-    let admitted = checks::check_record(word).then(reading::admit_factor(word, pairs, number));
-    let Checked::Passed = admitted else {
-        *first = 0;
-        *end = 0;
-        return admitted.number();
-    };
-    *first = pairs::factor_from(pairs, number);
-    *end = pairs::factor_end(pairs, number);
-    0
+    match places_of(word, pairs, number) {
+        Ok((from, to)) => {
+            *first = from;
+            *end = to;
+            0
+        }
+        Err(e) => {
+            *first = 0;
+            *end = 0;
+            u8::from(e)
+        }
+    }
 }
 
-pub fn metsroeb_summarize(word: &[u8], pairs: &[u16]) -> Summary
-    ensures { Summarized (export_door word.now) word.now pairs.now result }
+pub fn metsroeb_summarize(word: &[u8], pairs: &[u16]) -> SummaryReply
+    ensures { Gives summary_numbers result
+        (λ a. Summarized (export_door word.now) word.now pairs.now a) }
 {
-    summary::summarize(word, pairs)
+    numbers::numbers_of_summary(summary::summarize(word, pairs))
 }

@@ -12,11 +12,10 @@ ghost use Rattle.table.specs.Table.{Tabled};
 ghost use Rattle.runs.specs.Runs.{RunsDone};
 ghost use Rattle.compare.specs.Compare.{Compared};
 ghost use Rattle.summary.specs.Summary.{Summarized};
-ghost use Rattle.numbers.specs.Numbers.{test_numbers, count_numbers, breaks_numbers, batch_numbers, comparison_numbers};
+ghost use Rattle.numbers.specs.Numbers.{test_numbers, count_numbers, breaks_numbers, batch_numbers, comparison_numbers, summary_numbers};
 ghost use Rattle.exports.specs.Exports.{export_door, Gives, factor_numbers};
 
-use numbers::Replies;
-use summary::Summary;
+use numbers::{Replies, SummaryReply};
 
 #[unsafe(no_mangle)]
 pub extern "C" fn metsroeb_test(
@@ -131,8 +130,9 @@ pub extern "C" fn metsroeb_factor(
 }
 
 #[unsafe(no_mangle)]
-pub extern "C" fn metsroeb_summarize(word: &[u8], pairs: &[u16]) -> Summary
-    ensures { Summarized (export_door word.now) word.now pairs.now result }
+pub extern "C" fn metsroeb_summarize(word: &[u8], pairs: &[u16]) -> SummaryReply
+    ensures { Gives summary_numbers result
+        (λ a. Summarized (export_door word.now) word.now pairs.now a) }
 {
     exports::metsroeb_summarize(word, pairs)
 }
