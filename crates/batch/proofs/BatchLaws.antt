@@ -11,26 +11,24 @@ use lib.ListN.{length, take-append-drop, length-drop}
 use lib.Dec.{eqb}
 use lib.Seq.{slice, take_all, length-slice}
 use borrow.Author.Tests.{le-ltb, eq-eqb}
-use Rattle.std.specs.Prelude.{Result}
 use Rattle.words.specs.Separated.{separated_icfl_ends}
 use Rattle.words.specs.Pairs.{separated_pairs}
 use Rattle.theory.specs.Places.EndsRise.{rises-few}
 use Rattle.theory.specs.Stretches.Factors.{separated-icfl-ends-rise}
 use Rattle.conditions.specs.Conditions.{last_of, falls, are_faulty_record_ends}
 use Rattle.checks.specs.Lines.{Door, tried, result_line, Checked, Passed, Refused}
-use Rattle.checks.specs.Answers.{checked_number, Says, refuses, checked, count_says}
-use Rattle.checks.specs.declared.refusals.Refusal.{Refusal}
+use Rattle.checks.specs.Answers.{checked_number, Says, refuses, checked}
 use Rattle.checks.proofs.LineLaws.{not-both, all_pass, first_alone, said, every-joined, number-tested, unmet}
 use Rattle.conditions.proofs.RecordEndsLaws.{Climbs, climbs-head, climbs-tail, climbs-most, listed}
 use Rattle.icfl.specs.Icfl.{icfl_lines, icfl_answer, IcflDone}
 use Rattle.icfl.proofs.IcflCases.{work_lines, NoFour}
-use Rattle.batch.specs.Batch.{records_from, Progress, cut_record, cut_records, uncut, batch_of, batch_says, batch_with, batch_lines, BatchAnswer, BatchDone}
+use Rattle.batch.specs.Batch.{records_from, Progress, cut_record, cut_records, uncut, batch_of, batch_with, batch_lines, BatchDone}
 use Rattle.batch.specs.BatchStatements.{Left}
 use Rattle.batch.proofs.FoldLaws.{left, added, batch-answers, Every, folded-work, folded-pairs, written-drop, Fits, lines_of, entries-are, cut_when, fits_by}
 
 -- ---- both buffers
 
-pub batch-left : {door : Door} {bytes es work pairs work' pairs' : List ℕ} {r : BatchAnswer} → BatchDone door bytes es work pairs r work' pairs'
+pub batch-left : {door : Door} {bytes es work pairs work' pairs' : List ℕ} {said : ℕ × List (Says ℕ)} → BatchDone door bytes es work pairs said work' pairs'
     → tried (batch_lines es (length bytes)) ≡ Passed
     → Left (records_from 0 es bytes) (batch_of door bytes es work pairs).answers work pairs work' pairs'
 batch-left {door} {bytes} {es} {work} {pairs} d p = rw (batch-answers door bytes es work pairs) (record {
@@ -106,23 +104,23 @@ module _ (door : Door) (w work pairs : List ℕ) where
   unfolding records_from cut_records
   one-cut = ap (cut_record door (uncut work pairs)) (take_all (length w) w (omega arith))
 
-  pub single-batch : {work' pairs' : List ℕ} {r : BatchAnswer} → BatchDone door w (length w ∷ []) work pairs r work' pairs'
-      → (batch_says r ≡ batch_with 0 (icfl_answer (door w) w work pairs ∷ []))
-      × ((a : Result ℕ Refusal) → count_says a ≡ icfl_answer (door w) w work pairs → IcflDone (door w) w work pairs a work' pairs')
+  pub single-batch : {work' pairs' : List ℕ} {said : ℕ × List (Says ℕ)} → BatchDone door w (length w ∷ []) work pairs said work' pairs'
+      → (said ≡ batch_with 0 (icfl_answer (door w) w work pairs ∷ []))
+      × IcflDone (door w) w work pairs (icfl_answer (door w) w work pairs) work' pairs'
   unfolding cut_record
   single-batch d = (
     (rw (one_passes w) at d.answer) ∙ ap (λ (p : Progress). batch_with 0 p.answers) one-cut,
-    λ a e. record {
-      answer = e;
+    record {
+      answer = refl;
       result = (rw (one_passes w) at d.result) ∙ ap (λ (p : Progress). p.pairs) one-cut;
       worked = (rw (one_passes w) at d.worked) ∙ ap (λ (p : Progress). p.work) one-cut;
     },
   )
 
-  pub batch-single : {a : Result ℕ Refusal} {work' pairs' : List ℕ} → IcflDone (door w) w work pairs a work' pairs' → (r : BatchAnswer)
-      → batch_says r ≡ batch_with 0 (count_says a ∷ []) → BatchDone door w (length w ∷ []) work pairs r work' pairs'
+  pub batch-single : {a : Says ℕ} {work' pairs' : List ℕ} → IcflDone (door w) w work pairs a work' pairs' → (said : ℕ × List (Says ℕ))
+      → said ≡ batch_with 0 (a ∷ []) → BatchDone door w (length w ∷ []) work pairs said work' pairs'
   unfolding cut_record
-  batch-single {a} d r e = record {
+  batch-single {a} d said e = record {
     answer = rw (one_passes w) (e ∙ ap (λ (x : Says ℕ). batch_with 0 (x ∷ [])) d.answer
         ∙ ap (λ (p : Progress). batch_with 0 p.answers) (sym one-cut));
     result = rw (one_passes w) (d.result ∙ ap (λ (p : Progress). p.pairs) (sym one-cut));

@@ -16,7 +16,7 @@ use Rattle.theory.proofs.Stretches.RecordPairs.{pairs-entries}
 use Rattle.buffers.proofs.PartLaws.{part, part-is, rest, rest-is, rest_back}
 use Rattle.conditions.specs.Conditions.{most_records}
 use Rattle.checks.specs.Lines.{Line, Door, tried, Accepted, Passed, Refused}
-use Rattle.checks.specs.Answers.{number_of, Says, gives, count_says}
+use Rattle.checks.specs.Answers.{Says, gives, refuses, count_says}
 use Rattle.checks.specs.declared.refusals.Refusal.{Refusal}
 use Rattle.checks.proofs.LineLaws.{refused, both-passed, unmet, filled-counted}
 use Rattle.conditions.proofs.RecordEndsLaws.{Climbs, climbs-head, climbs-tail, climbs-most, listed}
@@ -24,8 +24,8 @@ use Rattle.icfl.specs.Icfl.{icfl_lines, IcflDone}
 use Rattle.icfl.proofs.IcflCases.{icfl-filled}
 use Rattle.batch.specs.Batch.{records_from, Progress, used_entries, cut_record, cut_records, batch_of, says_of, places_of, batch_with, batch_lines, BatchDone}
 
-pub batch-refused : (door : Door) (bytes es work pairs : List ℕ) {e : Refusal} → Refused (number_of e) ≡ tried (batch_lines es (length bytes))
-    → BatchDone door bytes es work pairs (Err e) work pairs
+pub batch-refused : (door : Door) (bytes es work pairs : List ℕ) {m : ℕ} → Refused m ≡ tried (batch_lines es (length bytes))
+    → BatchDone door bytes es work pairs (batch_with m []) work pairs
 batch-refused door bytes es work pairs e =
     let lines = batch_lines es (length bytes) in
     record {
@@ -59,18 +59,18 @@ placed-next answers a places {i} e n l =
     ∙ sym (append_assoc answers (count_says a ∷ []) rest)
 
 -- an answer uses no more entries than the buffer has
-used-fits : {door : List Line} {w work left : List ℕ} {a : Result ℕ Refusal} {work₁ left₁ : List ℕ} → IcflDone door w work left a work₁ left₁ → used_entries (count_says a) ≤ length left₁
-used-fits {w} {left = left} {a = Ok n} d =
+used-fits : {door : List Line} {w work left : List ℕ} {said : Says ℕ} {work₁ left₁ : List ℕ} → IcflDone door w work left said work₁ left₁ → used_entries said ≤ length left₁
+used-fits {w} {left = left} {said = gives n} d =
     let f = filled-counted (icfl-filled d) in
     omega (arith, f.1, ap length f.2, length-append (separated_pairs w) (drop (length (separated_pairs w)) left), pairs-entries w)
-used-fits {a = Err number} d = omega arith
+used-fits {said = refuses number} d = omega arith
 
-pub used-few : {door : List Line} {w work left : List ℕ} {a : Result ℕ Refusal} {work₁ left₁ : List ℕ} → (tried door ≡ Passed → Accepted w) → IcflDone door w work left a work₁ left₁
-    → used_entries (count_says a) ≤ 2 * most_letters
-used-few {door} {w} {work} {left} {a = Ok n} g d =
+pub used-few : {door : List Line} {w work left : List ℕ} {said : Says ℕ} {work₁ left₁ : List ℕ} → (tried door ≡ Passed → Accepted w) → IcflDone door w work left said work₁ left₁
+    → used_entries said ≤ 2 * most_letters
+used-few {door} {w} {work} {left} {said = gives n} g d =
     let f = filled-counted (icfl-filled d) in
     omega (arith, f.1, (g (both-passed door (icfl_lines w (length work) (length left)) f.0).0).short, rises-few (separated-icfl-ends-rise w))
-used-few {a = Err number} g d = omega arith
+used-few {said = refuses number} g d = omega arith
 
 pub record Cutting (door : Door) (bytes es work₀ pairs₀ work pairs : List ℕ) (places : List (Result ℕ Refusal)) (from used i : ℕ) : Type 0 where
   pub answers : List (Says ℕ)
@@ -91,7 +91,7 @@ cutting-starts door bytes es work pairs p =
 
 module _ {door : Door} {bytes es work₀ pairs₀ work pairs : List ℕ} {places : List (Result ℕ Refusal)} {from used i : ℕ}
     (g : Cutting door bytes es work₀ pairs₀ work pairs places from used i) where
-  pub cutting-ends : tried (batch_lines es (length bytes)) ≡ Passed → length es ≤ i → BatchDone door bytes es work₀ pairs₀ (Ok places) work pairs
+  pub cutting-ends : tried (batch_lines es (length bytes)) ≡ Passed → length es ≤ i → BatchDone door bytes es work₀ pairs₀ (0, says_of places) work pairs
   unfolding records_from cut_records
   cutting-ends p l =
       let none : drop i es ≡ [] = drop_of_length-le es {i = i} l in
@@ -104,8 +104,8 @@ module _ {door : Door} {bytes es work₀ pairs₀ work pairs : List ℕ} {places
       }
 
   -- the entries that the next answer uses are among those left
-  pub lent-room : {lines : List Line} {w : List ℕ} {a : Result ℕ Refusal} {n : ℕ} {work₁ left₁ : List ℕ} → IcflDone lines w work (rest used pairs) a work₁ left₁
-      → n ≡ used_entries (count_says a)
+  pub lent-room : {lines : List Line} {w : List ℕ} {said : Says ℕ} {n : ℕ} {work₁ left₁ : List ℕ} → IcflDone lines w work (rest used pairs) said work₁ left₁
+      → n ≡ used_entries said
       → length left₁ ≡ length (rest used pairs) → used + n ≤ length pairs
   lent-room d z k = omega (arith, z, k, used-fits d, ap length (rest-is used pairs), length-drop used pairs, g.room)
 
@@ -123,11 +123,11 @@ module _ {door : Door} {bytes es work₀ pairs₀ work pairs : List ℕ} {places
     pub record-end : get_or es i 0 ≤ length bytes
     record-end = climbs-most (climbs-tail climbs-on)
 
-    pub cutting-on : {a : Result ℕ Refusal} {work₁ left₁ : List ℕ}
-        → (let w = slice from (get_or es i 0) bytes in IcflDone (door w) w work (drop used pairs) a work₁ left₁)
+    pub cutting-on : (a : Result ℕ Refusal) {work₁ left₁ : List ℕ}
+        → (let w = slice from (get_or es i 0) bytes in IcflDone (door w) w work (drop used pairs) (count_says a) work₁ left₁)
         → Cutting door bytes es work₀ pairs₀ work₁ (take used pairs ++ left₁) (set places i a) (get_or es i 0) (used + used_entries (count_says a)) (i + 1)
     unfolding records_from cut_records cut_record
-    cutting-on {a} {work₁} {left₁} d = record {
+    cutting-on a {work₁} {left₁} d = record {
       answers = g.answers ++ count_says a ∷ [];
       count = length-append g.answers (count_says a ∷ []) ∙ omega (arith, g.count);
       placed = placed-next g.answers a places g.placed g.count (omega (arith, g.few));
@@ -140,8 +140,8 @@ module _ {door : Door} {bytes es work₀ pairs₀ work pairs : List ℕ} {places
     }
 
     -- the same, as the code lends the record and what is left of the result buffer
-    pub lent-on : {a : Result ℕ Refusal} {n : ℕ} {work₁ left₁ : List ℕ}
-        → (let w = part from (get_or es i 0) bytes in IcflDone (door w) w work (rest used pairs) a work₁ left₁) → n ≡ used_entries (count_says a)
+    pub lent-on : (a : Result ℕ Refusal) {n : ℕ} {work₁ left₁ : List ℕ}
+        → (let w = part from (get_or es i 0) bytes in IcflDone (door w) w work (rest used pairs) (count_says a) work₁ left₁) → n ≡ used_entries (count_says a)
         → Cutting door bytes es work₀ pairs₀ work₁ (take used pairs ++ (left₁ ++ drop (length pairs - used) (drop used pairs))) (set places i a) (get_or es i 0) (used + n)
         (i + 1)
-    lent-on {left₁ = left₁} d z = rw (rest_back used pairs left₁, z) (cutting-on (rw (part-is from (get_or es i 0) bytes, rest-is used pairs) at d))
+    lent-on a {left₁ = left₁} d z = rw (rest_back used pairs left₁, z) (cutting-on a (rw (part-is from (get_or es i 0) bytes, rest-is used pairs) at d))

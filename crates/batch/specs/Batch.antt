@@ -78,7 +78,7 @@ abbrev pub batch_lines : List ℕ → ℕ → List Line
 batch_lines es n = record_ends_line es n ∷ []
 
 -- the call's promise, each record cut behind a door: its answer, 0 or 10 with all places (with 10 all hold "a result of 0"), and both buffers whole
-pub record BatchDone (door : Door) (bytes es work pairs : List ℕ) (r : BatchAnswer) (work' pairs' : List ℕ) : Type 0 where
-  pub answer : batch_says r ≡ batch_with 0 (batch_of door bytes es work pairs).answers unless batch_lines es (length bytes) then (λ number. batch_with number [])
+pub record BatchDone (door : Door) (bytes es work pairs : List ℕ) (said : ℕ × List (Says ℕ)) (work' pairs' : List ℕ) : Type 0 where
+  pub answer : said ≡ batch_with 0 (batch_of door bytes es work pairs).answers unless batch_lines es (length bytes) then (λ number. batch_with number [])
   pub result : pairs' ≡ (batch_of door bytes es work pairs).pairs unless batch_lines es (length bytes) then (λ number. pairs)
   pub worked : work' ≡ (batch_of door bytes es work pairs).work unless batch_lines es (length bytes) then (λ number. work)

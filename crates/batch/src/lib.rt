@@ -5,7 +5,7 @@ ghost use Rattle.std.specs.Prelude.{◌≡◌, ◌*◌, ◌≤◌};
 ghost use Rattle.words.specs.Words.{most_letters};
 ghost use Rattle.checks.specs.Lines.{record_lines};
 ghost use Rattle.checks.specs.Answers.{count_says};
-ghost use Rattle.batch.specs.Batch.{used_entries, BatchDone};
+ghost use Rattle.batch.specs.Batch.{used_entries, batch_says, BatchDone};
 
 pub use checks::MOST_RECORDS;
 use checks::Refusal;
@@ -36,8 +36,8 @@ pub fn icfl_batch(
     work: &mut [u16],
     pairs: &mut [u16],
 ) -> Result<Answers, Refusal>
-    ensures { BatchDone record_lines bytes.now record_ends.now work.old pairs.old result
-        work.new pairs.new }
+    ensures { BatchDone record_lines bytes.now record_ends.now work.old pairs.old (batch_says result)
+                work.new pairs.new }
 {
     checks::check_record_ends(record_ends, bytes.len())?;
     let mut answers = [Ok(0); MOST_RECORDS];

@@ -4,7 +4,7 @@
 ghost use Rattle.std.specs.Prelude.{◌≡◌, [], ◌≤◌, length};
 ghost use Rattle.words.specs.Words.{most_letters};
 ghost use Rattle.checks.specs.Lines.{tried, record_lines};
-ghost use Rattle.checks.specs.Answers.{outcome};
+ghost use Rattle.checks.specs.Answers.{outcome, count_says};
 ghost use Rattle.cfl.specs.CflIn.{cfl_in_lines, CflInDone};
 
 use checks::{Record, Refusal};
@@ -22,7 +22,7 @@ fn check_room(word: &[u8], entries: usize) -> Result<(), Refusal>
 
 /// The strict cut of an accepted record: the call's own line, 4, and its work.
 pub fn cut(record: Record, ends: &mut [u16]) -> Result<usize, Refusal>
-    ensures { CflInDone [] record.entry.letters.now ends.old result ends.new }
+    ensures { CflInDone [] record.entry.letters.now ends.old (count_says result) ends.new }
 {
     check_room(record.letters, ends.len())?;
     Ok(strict::write_ends(record.letters, ends))
@@ -31,7 +31,7 @@ pub fn cut(record: Record, ends: &mut [u16]) -> Result<usize, Refusal>
 /// The strict cut: writes the ends of the factors from entry 0 on, and answers their number. Each separator is a
 /// factor, and each stretch between two is cut by itself. Refusals 1, 2, 4.
 pub fn cfl_in(word: &[u8], ends: &mut [u16]) -> Result<usize, Refusal>
-    ensures { CflInDone (record_lines word.now) word.now ends.old result ends.new }
+    ensures { CflInDone (record_lines word.now) word.now ends.old (count_says result) ends.new }
 {
     let record = Record::admit(word)?;
     cut(record, ends)

@@ -230,31 +230,29 @@ unless-but result other (m when false ∷ lines) more number e f =
 
 -- ---- calls that fill a result buffer
 
-pub filled-refused : {e : Refusal} {lines : List Line} (n : ℕ) (vs buffer : List ℕ) → Refused (number_of e) ≡ tried lines
-    → Filled lines n vs buffer (Err e) buffer
+pub filled-refused : {m : ℕ} {lines : List Line} (n : ℕ) (vs buffer : List ℕ) → Refused m ≡ tried lines → Filled lines n vs buffer (refuses m) buffer
 filled-refused {lines = lines} n vs buffer e = record {
   answer = refused lines (gives n) (λ (i : ℕ). refuses i) e;
   result = refused lines (written vs buffer) (λ (i : ℕ). buffer) e;
 }
 
 pub filled-done : {lines : List Line} {n m : ℕ} {vs buffer buffer' : List ℕ} → tried lines ≡ Passed → m ≡ n → buffer' ≡ written vs buffer
-    → Filled lines n vs buffer (Ok m) buffer'
+    → Filled lines n vs buffer (gives m) buffer'
 filled-done p z e = record { answer = rw p (ap (λ (t : ℕ). gives t) z); result = rw p e }
 
 -- the two ways through a door
-pub filled-at-door : (door own : List Line) (n : ℕ) (vs buffer : List ℕ) {e : Refusal} → Refused (number_of e) ≡ tried door
-    → Filled (door ++ own) n vs buffer (Err e) buffer
+pub filled-at-door : (door own : List Line) (n : ℕ) (vs buffer : List ℕ) {m : ℕ} → Refused m ≡ tried door → Filled (door ++ own) n vs buffer (refuses m) buffer
 filled-at-door door own n vs buffer e = filled-refused n vs buffer (refused-first door own e)
 
-pub filled-past-door : (door : List Line) {own : List Line} {n : ℕ} {vs buffer buffer' : List ℕ} {r : Result ℕ Refusal} → tried door ≡ Passed → Filled own n vs buffer r buffer'
-    → Filled (door ++ own) n vs buffer r buffer'
+pub filled-past-door : (door : List Line) {own : List Line} {n : ℕ} {vs buffer buffer' : List ℕ} {s : Says ℕ} → tried door ≡ Passed → Filled own n vs buffer s buffer'
+    → Filled (door ++ own) n vs buffer s buffer'
 filled-past-door door {own} {n} {vs} {buffer} p f = record {
   answer = f.answer ∙ past-door door own (gives n) (λ (i : ℕ). refuses i) p;
   result = f.result ∙ past-door door own (written vs buffer) (λ (i : ℕ). buffer) p;
 }
 
 -- what the cases of the answer tell
-pub filled-counted : {lines : List Line} {n m : ℕ} {vs buffer buffer' : List ℕ} → Filled lines n vs buffer (Ok m) buffer'
+pub filled-counted : {lines : List Line} {n m : ℕ} {vs buffer buffer' : List ℕ} → Filled lines n vs buffer (gives m) buffer'
     → (tried lines ≡ Passed) × (m ≡ n) × (buffer' ≡ written vs buffer)
 filled-counted {lines} {n} {m} {vs} {buffer} {buffer'} f = go (tried lines) f.answer f.result
   where
@@ -264,20 +262,20 @@ filled-counted {lines} {n} {m} {vs} {buffer} {buffer'} f = go (tried lines) f.an
     go (Refused number) e b = let z : ◌≡◌ {A = ℕ} 0 1 = cc in absurd (omega arith)
 
 -- a call that answered Count m wrote m entries to the buffer's front
-pub filled-entries : {lines : List Line} {n m : ℕ} {vs buffer buffer' : List ℕ} → Filled lines n vs buffer (Ok m) buffer' → (k : ℕ) → k ≡ length vs
+pub filled-entries : {lines : List Line} {n m : ℕ} {vs buffer buffer' : List ℕ} → Filled lines n vs buffer (gives m) buffer' → (k : ℕ) → k ≡ length vs
     → (take k buffer' ≡ vs) × (k ≤ length buffer')
 filled-entries {vs = vs} {buffer = buffer} f k e =
     rw ((filled-counted f).2, e) (take_at vs (drop (length vs) buffer) (length vs) refl, rw length-append (omega arith))
 
-pub filled-front : {lines : List Line} {m : ℕ} {vs buffer buffer' : List ℕ} → Filled lines (length vs) vs buffer (Ok m) buffer'
+pub filled-front : {lines : List Line} {m : ℕ} {vs buffer buffer' : List ℕ} → Filled lines (length vs) vs buffer (gives m) buffer'
     → (take m buffer' ≡ vs) × (m ≤ length buffer')
 filled-front {m = m} f = filled-entries f m (filled-counted f).1
 
-pub filled-number : {lines : List Line} {n : ℕ} {e : Refusal} {vs buffer buffer' : List ℕ} → Filled lines n vs buffer (Err e) buffer'
-    → (tried lines ≡ Refused (number_of e)) × (buffer' ≡ buffer)
-filled-number {lines} {n} {e} {vs} {buffer} {buffer'} f = go (tried lines) f.answer f.result
+pub filled-number : {lines : List Line} {n m : ℕ} {vs buffer buffer' : List ℕ} → Filled lines n vs buffer (refuses m) buffer'
+    → (tried lines ≡ Refused m) × (buffer' ≡ buffer)
+filled-number {lines} {n} {m} {vs} {buffer} {buffer'} f = go (tried lines) f.answer f.result
   where
-    go : (k : Checked) → refuses (number_of e) ≡ decided k (gives n) refuses → buffer' ≡ decided k (written vs buffer) (λ number. buffer)
-        → (k ≡ Refused (number_of e)) × (buffer' ≡ buffer)
+    go : (k : Checked) → refuses m ≡ decided k (gives n) refuses → buffer' ≡ decided k (written vs buffer) (λ number. buffer)
+        → (k ≡ Refused m) × (buffer' ≡ buffer)
     go Passed x b = let z : ◌≡◌ {A = ℕ} 0 1 = cc in absurd (omega arith)
     go (Refused number) x b = (cc, b)

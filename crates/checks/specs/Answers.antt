@@ -57,8 +57,8 @@ says_by values (Err refusal) = refuses (number_of refusal)
 abbrev pub count_says : Result ℕ Refusal → Says ℕ
 count_says r = says_by (λ n. n) r
 
--- a call that fills a result buffer with vs and answers n: "An accepted cut or start table writes exactly the answer's entries, from entry 0"; "Result buffers
+-- what a call says that fills a result buffer with vs and answers n, and what it leaves there: "An accepted cut or start table writes exactly the answer's entries, from entry 0"; "Result buffers
 -- are untouched by a refusal."
-pub record Filled (lines : List Line) (n : ℕ) (vs buffer : List ℕ) (r : Result ℕ Refusal) (buffer' : List ℕ) : Type 0 where
-  pub answer : count_says r ≡ gives n unless lines then refuses
+pub record Filled (lines : List Line) (n : ℕ) (vs buffer : List ℕ) (said : Says ℕ) (buffer' : List ℕ) : Type 0 where
+  pub answer : said ≡ gives n unless lines then refuses
   pub result : buffer' ≡ written vs buffer unless lines then (λ number. buffer)

@@ -7,12 +7,8 @@ use Rattle.checks.specs.Answers.{Says, gives, refuses, says_by, values_or}
 use Rattle.letters.specs.declared.Order.{Order}
 use Rattle.letters.specs.Steps.{sign_of}
 
--- the type of the comparison's answer
-abbrev pub ComparisonAnswer : Type 0
-ComparisonAnswer = Result Order Refusal
-
 -- what each case says: the sign, and how far the two agree (request 104)
-abbrev pub comparison_says : ComparisonAnswer → Says (ℤ × ℕ)
+abbrev pub comparison_says : Result Order Refusal → Says (ℤ × ℕ)
 comparison_says r = says_by (λ (order : Order). (sign_of order.sign, order.common)) r
 
 -- the two apart, 0 beside a refusal
@@ -21,12 +17,6 @@ sign_said said = (values_or (pos 0, 0) said).0
 
 abbrev pub common_said : Says (ℤ × ℕ) → ℕ
 common_said said = (values_or (pos 0, 0) said).1
-
-abbrev pub told_sign : ComparisonAnswer → ℤ
-told_sign r = sign_said (comparison_says r)
-
-abbrev pub common_of : ComparisonAnswer → ℕ
-common_of r = common_said (comparison_says r)
 
 -- the comparison's own lines, tried past those at its door: 5 and 6, the last for each of the two starts
 abbrev pub compare_lines : ℕ → ℕ → ℕ → ℕ → ℕ → List Line
@@ -37,5 +27,5 @@ abbrev pub order_of : List ℕ → ℕ → ℕ → ℕ → ℕ → ℤ × ℕ
 order_of w first end start other = (sign w first end start other, common_within w first end start other)
 
 -- the comparison's promise, by the lines at its door
-pub record Compared (door : List Line) (w : List ℕ) (first end start other : ℕ) (r : ComparisonAnswer) : Type 0 where
-  pub answer : comparison_says r ≡ gives (order_of w first end start other) unless door ++ compare_lines (length w) first end start other then refuses
+pub record Compared (door : List Line) (w : List ℕ) (first end start other : ℕ) (said : Says (ℤ × ℕ)) : Type 0 where
+  pub answer : said ≡ gives (order_of w first end start other) unless door ++ compare_lines (length w) first end start other then refuses

@@ -2,7 +2,7 @@
 ghost use Rattle.std.specs.Prelude.{◌≡◌, []};
 ghost use Rattle.checks.specs.Lines.{tried, record_lines};
 ghost use Rattle.checks.specs.Answers.{outcome};
-ghost use Rattle.compare.specs.Compare.{compare_lines, Compared};
+ghost use Rattle.compare.specs.Compare.{compare_lines, comparison_says, Compared};
 
 use checks::{Record, Refusal};
 use letters::Order;
@@ -30,7 +30,7 @@ pub fn compare_within(
     start: usize,
     other: usize,
 ) -> Result<Order, Refusal>
-    ensures { Compared [] record.entry.letters.now first end start other result }
+    ensures { Compared [] record.entry.letters.now first end start other (comparison_says result) }
 {
     let word = record.letters;
     admit(word.len(), first, end, start, other)?;
@@ -47,7 +47,7 @@ pub fn compare_suffixes(
     start: usize,
     other: usize,
 ) -> Result<Order, Refusal>
-    ensures { Compared (record_lines word.now) word.now first end start other result }
+    ensures { Compared (record_lines word.now) word.now first end start other (comparison_says result) }
 {
     let record = Record::admit(word)?;
     compare_within(record, first, end, start, other)

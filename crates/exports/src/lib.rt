@@ -1,5 +1,5 @@
-//! The calls for C and Rust: include/metsroeb.h has their signatures. Each returns the refusal's number, 0 for a
-//! result, or a struct that holds it; results go to that struct or to numbers that the caller lends, 0 beside a
+//! The calls for C and Rust: include/metsroeb.h has their signatures. Each returns the refusal's number, 0 for said
+//! result, or a struct that holds it; results go to that struct or to numbers that the caller lends, 0 beside said
 //! refusal. Each promises the numbers of an answer that the library's own promise allows.
 #![tactic(auto)]
 
@@ -39,7 +39,7 @@ pub fn metsroeb_test(
     border: &mut u16,
 ) -> u8
     ensures { Gives test_numbers (result, failing.new, prefix.new, border.new)
-        (λ a. ExtensionFound (export_door word.now) word.now work.old a work.new) }
+        (λ said. ExtensionFound (export_door word.now) word.now work.old said work.new) }
 {
     numbers::tell_test(
         extension::find_extension(word, work),
@@ -51,7 +51,7 @@ pub fn metsroeb_test(
 
 pub fn metsroeb_icfl(word: &[u8], work: &mut [u16], pairs: &mut [u16], count: &mut u16) -> u8
     ensures { Gives count_numbers (result, count.new)
-        (λ a. IcflDone (export_door word.now) word.now work.old pairs.old a
+        (λ said. IcflDone (export_door word.now) word.now work.old pairs.old said
         work.new pairs.new) }
 {
     numbers::tell_count(icfl::icfl(word, work, pairs), count)
@@ -66,7 +66,7 @@ pub fn metsroeb_icfl_breaks(
     break_count: &mut u16,
 ) -> u8
     ensures { Gives breaks_numbers (result, count.new, break_count.new)
-        (λ a. BreaksDone (export_door word.now) word.now work.old pairs.old breaks.old a
+        (λ said. BreaksDone (export_door word.now) word.now work.old pairs.old breaks.old said
         work.new pairs.new breaks.new) }
 {
     let answer = icfl_breaks::icfl_with_breaks(word, work, pairs, breaks);
@@ -80,7 +80,7 @@ pub fn metsroeb_icfl_batch(
     pairs: &mut [u16],
 ) -> Replies
     ensures { Gives batch_numbers result
-        (λ a. BatchDone export_door bytes.now record_ends.now work.old pairs.old a
+        (λ said. BatchDone export_door bytes.now record_ends.now work.old pairs.old said
         work.new pairs.new) }
 {
     let answers = batch::icfl_batch(bytes, record_ends, work, pairs);
@@ -89,21 +89,21 @@ pub fn metsroeb_icfl_batch(
 
 pub fn metsroeb_cfl_in(word: &[u8], ends: &mut [u16], count: &mut u16) -> u8
     ensures { Gives count_numbers (result, count.new)
-        (λ a. CflInDone (export_door word.now) word.now ends.old a ends.new) }
+        (λ said. CflInDone (export_door word.now) word.now ends.old said ends.new) }
 {
     numbers::tell_count(cfl::cfl_in(word, ends), count)
 }
 
 pub fn metsroeb_lyndon_table(word: &[u8], lengths: &mut [u16], count: &mut u16) -> u8
     ensures { Gives count_numbers (result, count.new)
-        (λ a. Tabled (export_door word.now) word.now lengths.old a lengths.new) }
+        (λ said. Tabled (export_door word.now) word.now lengths.old said lengths.new) }
 {
     numbers::tell_count(table::lyndon_table(word, lengths), count)
 }
 
 pub fn metsroeb_runs(word: &[u8], runs: &mut [u16], count: &mut u16) -> u8
     ensures { Gives count_numbers (result, count.new)
-        (λ a. RunsDone (export_door word.now) word.now runs.old a runs.new) }
+        (λ said. RunsDone (export_door word.now) word.now runs.old said runs.new) }
 {
     numbers::tell_count(runs::runs(word, runs), count)
 }
@@ -118,7 +118,7 @@ pub fn metsroeb_compare(
     common: &mut u16,
 ) -> u8
     ensures { Gives comparison_numbers (result, sign.new, common.new)
-        (λ a. Compared (export_door word.now) word.now first end start other a) }
+        (λ said. Compared (export_door word.now) word.now first end start other said) }
 {
     let answer = compare::compare_suffixes(word, first, end, start, other);
     numbers::tell_comparison(answer, sign, common)
@@ -150,7 +150,7 @@ pub fn metsroeb_factor(
 
 pub fn metsroeb_summarize(word: &[u8], pairs: &[u16]) -> SummaryReply
     ensures { Gives summary_numbers result
-        (λ a. Summarized (export_door word.now) word.now pairs.now a) }
+        (λ said. Summarized (export_door word.now) word.now pairs.now said) }
 {
     numbers::numbers_of_summary(summary::summarize(word, pairs))
 }

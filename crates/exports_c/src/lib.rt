@@ -26,7 +26,7 @@ pub extern "C" fn metsroeb_test(
     border: &mut u16,
 ) -> u8
     ensures { Gives test_numbers (result, failing.new, prefix.new, border.new)
-        (λ a. ExtensionFound (export_door word.now) word.now work.old a work.new) }
+        (λ said. ExtensionFound (export_door word.now) word.now work.old said work.new) }
 {
     exports::metsroeb_test(word, work, failing, prefix, border)
 }
@@ -39,7 +39,7 @@ pub extern "C" fn metsroeb_icfl(
     count: &mut u16,
 ) -> u8
     ensures { Gives count_numbers (result, count.new)
-        (λ a. IcflDone (export_door word.now) word.now work.old pairs.old a
+        (λ said. IcflDone (export_door word.now) word.now work.old pairs.old said
         work.new pairs.new) }
 {
     exports::metsroeb_icfl(word, work, pairs, count)
@@ -55,7 +55,7 @@ pub extern "C" fn metsroeb_icfl_breaks(
     break_count: &mut u16,
 ) -> u8
     ensures { Gives breaks_numbers (result, count.new, break_count.new)
-        (λ a. BreaksDone (export_door word.now) word.now work.old pairs.old breaks.old a
+        (λ said. BreaksDone (export_door word.now) word.now work.old pairs.old breaks.old said
         work.new pairs.new breaks.new) }
 {
     exports::metsroeb_icfl_breaks(word, work, pairs, breaks, count, break_count)
@@ -69,7 +69,7 @@ pub extern "C" fn metsroeb_icfl_batch(
     pairs: &mut [u16],
 ) -> Replies
     ensures { Gives batch_numbers result
-        (λ a. BatchDone export_door bytes.now record_ends.now work.old pairs.old a
+        (λ said. BatchDone export_door bytes.now record_ends.now work.old pairs.old said
         work.new pairs.new) }
 {
     exports::metsroeb_icfl_batch(bytes, record_ends, work, pairs)
@@ -78,7 +78,7 @@ pub extern "C" fn metsroeb_icfl_batch(
 #[unsafe(no_mangle)]
 pub extern "C" fn metsroeb_cfl_in(word: &[u8], ends: &mut [u16], count: &mut u16) -> u8
     ensures { Gives count_numbers (result, count.new)
-        (λ a. CflInDone (export_door word.now) word.now ends.old a ends.new) }
+        (λ said. CflInDone (export_door word.now) word.now ends.old said ends.new) }
 {
     exports::metsroeb_cfl_in(word, ends, count)
 }
@@ -86,7 +86,7 @@ pub extern "C" fn metsroeb_cfl_in(word: &[u8], ends: &mut [u16], count: &mut u16
 #[unsafe(no_mangle)]
 pub extern "C" fn metsroeb_lyndon_table(word: &[u8], lengths: &mut [u16], count: &mut u16) -> u8
     ensures { Gives count_numbers (result, count.new)
-        (λ a. Tabled (export_door word.now) word.now lengths.old a lengths.new) }
+        (λ said. Tabled (export_door word.now) word.now lengths.old said lengths.new) }
 {
     exports::metsroeb_lyndon_table(word, lengths, count)
 }
@@ -94,7 +94,7 @@ pub extern "C" fn metsroeb_lyndon_table(word: &[u8], lengths: &mut [u16], count:
 #[unsafe(no_mangle)]
 pub extern "C" fn metsroeb_runs(word: &[u8], runs: &mut [u16], count: &mut u16) -> u8
     ensures { Gives count_numbers (result, count.new)
-        (λ a. RunsDone (export_door word.now) word.now runs.old a runs.new) }
+        (λ said. RunsDone (export_door word.now) word.now runs.old said runs.new) }
 {
     exports::metsroeb_runs(word, runs, count)
 }
@@ -110,7 +110,7 @@ pub extern "C" fn metsroeb_compare(
     common: &mut u16,
 ) -> u8
     ensures { Gives comparison_numbers (result, sign.new, common.new)
-        (λ a. Compared (export_door word.now) word.now first end start other a) }
+        (λ said. Compared (export_door word.now) word.now first end start other said) }
 {
     exports::metsroeb_compare(word, first, end, start, other, sign, common)
 }
@@ -132,7 +132,7 @@ pub extern "C" fn metsroeb_factor(
 #[unsafe(no_mangle)]
 pub extern "C" fn metsroeb_summarize(word: &[u8], pairs: &[u16]) -> SummaryReply
     ensures { Gives summary_numbers result
-        (λ a. Summarized (export_door word.now) word.now pairs.now a) }
+        (λ said. Summarized (export_door word.now) word.now pairs.now said) }
 {
     exports::metsroeb_summarize(word, pairs)
 }

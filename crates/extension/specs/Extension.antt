@@ -12,16 +12,12 @@ use Rattle.scan.specs.State.{Rests}
 use Rattle.scan.specs.declared.Scan.{Scan}
 use Rattle.extension.specs.declared.Extension.{Extension}
 
--- the type of the test's answer
-abbrev pub TestAnswer : Type 0
-TestAnswer = Result (Option Extension) Refusal
-
 -- 'The test answers "falling", or "failing" with L, |p| and |r|.': what each case says, with no values for "falling"
 abbrev pub extension_values : Option Extension → List ℕ
 extension_values None = []
 extension_values (Some x) = x.failing ∷ x.prefix ∷ x.border ∷ []
 
-abbrev pub test_says : TestAnswer → Says (List ℕ)
+abbrev pub test_says : Result (Option Extension) Refusal → Says (List ℕ)
 test_says r = says_by extension_values r
 
 abbrev pub verdict_as : Bool → ℕ → ℕ → ℕ → List ℕ
@@ -38,8 +34,8 @@ extension_lines w entries = work_line entries (length w) ∷ mark_line w ∷ []
 
 -- the call's promise, by the lines at its door: its answer; and "after an accepted .. test .. the entries counted in line 3 are zero and later ones
 -- unchanged", untouched by a refusal
-pub record ExtensionFound (door : List Line) (w work : List ℕ) (r : TestAnswer) (work' : List ℕ) : Type 0 where
-  pub answer : test_says r ≡ gives (verdict_of w) unless door ++ extension_lines w (length work) then refuses
+pub record ExtensionFound (door : List Line) (w work : List ℕ) (said : Says (List ℕ)) (work' : List ℕ) : Type 0 where
+  pub answer : said ≡ gives (verdict_of w) unless door ++ extension_lines w (length work) then refuses
   pub buffer : work' ≡ cleared (length w) work unless door ++ extension_lines w (length work) then (λ number. work)
 
 -- ---- inner functions

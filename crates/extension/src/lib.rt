@@ -5,7 +5,7 @@
 ghost use Rattle.std.specs.Prelude.{[]};
 ghost use Rattle.theory.specs.Scan.ScannedBorders.{ShortestBorder};
 ghost use Rattle.checks.specs.Lines.{record_lines};
-ghost use Rattle.extension.specs.Extension.{ExtensionFound, TestRoom, Scanning, Ready, Verdict};
+ghost use Rattle.extension.specs.Extension.{test_says, ExtensionFound, TestRoom, Scanning, Ready, Verdict};
 
 use checks::{Record, Refusal};
 use scan::Scan;
@@ -79,7 +79,7 @@ pub fn extension_of(word: &[u8], work: &mut [u16]) -> Option<Extension>
 /// The test of an accepted record: the call's own lines, 3 and 9, and its work. The letters are looked at only past
 /// line 3.
 pub fn test(record: Record, work: &mut [u16]) -> Result<Option<Extension>, Refusal>
-    ensures { ExtensionFound [] record.entry.letters.now work.old result work.new }
+    ensures { ExtensionFound [] record.entry.letters.now work.old (test_says result) work.new }
 {
     let word = record.letters;
     checks::check_work(work.len(), word.len())?;
@@ -92,7 +92,7 @@ pub fn test(record: Record, work: &mut [u16]) -> Result<Option<Extension>, Refus
 /// The test. Refusals 1, 2, 3, 9; after a result the first entries of `work`, as many as the word has letters, are
 /// zero, and a refusal leaves it as it was.
 pub fn find_extension(word: &[u8], work: &mut [u16]) -> Result<Option<Extension>, Refusal>
-    ensures { ExtensionFound (record_lines word.now) word.now work.old result work.new }
+    ensures { ExtensionFound (record_lines word.now) word.now work.old (test_says result) work.new }
 {
     let record = Record::admit(word)?;
     test(record, work)

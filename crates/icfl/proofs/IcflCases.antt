@@ -10,7 +10,6 @@ use borrow.Author.Tests.{not-true}
 use lib.ListN.{length, take}
 use lib.Seq.{length-slice}
 use lib.Dec.{eqb}
-use Rattle.std.specs.Prelude.{Result, Ok, Err}
 use Rattle.words.specs.Words.{most_letters}
 use Rattle.words.specs.Separated.{separated_icfl_ends}
 use Rattle.words.specs.Pairs.{separated_pairs}
@@ -19,8 +18,7 @@ use Rattle.buffers.specs.Buffers.{cleared, written}
 use Rattle.buffers.proofs.BufferLaws.{cleared-kept}
 use Rattle.buffers.proofs.PartLaws.{part, part-is}
 use Rattle.checks.specs.Lines.{Line, tried, ◌unless◌then◌, work_line, result_line, Accepted, Passed, Refused}
-use Rattle.checks.specs.Answers.{number_of, Says, gives, refuses, Filled}
-use Rattle.checks.specs.declared.refusals.Refusal.{Refusal}
+use Rattle.checks.specs.Answers.{Says, gives, refuses, Filled}
 use Rattle.checks.proofs.LineLaws.{
   refused,
   past-door,
@@ -85,8 +83,8 @@ at-door-worked door own n work no-four {m} e =
 -- ---- the piece cut
 
 -- it fills the result buffer
-pub icfl-filled : {door : List Line} {w work pairs : List ℕ} {r : Result ℕ Refusal} {work' pairs' : List ℕ} → IcflDone door w work pairs r work' pairs'
-    → Filled (door ++ icfl_lines w (length work) (length pairs)) (length (separated_icfl_ends w)) (separated_pairs w) pairs r pairs'
+pub icfl-filled : {door : List Line} {w work pairs : List ℕ} {said : Says ℕ} {work' pairs' : List ℕ} → IcflDone door w work pairs said work' pairs'
+    → Filled (door ++ icfl_lines w (length work) (length pairs)) (length (separated_icfl_ends w)) (separated_pairs w) pairs said pairs'
 icfl-filled d = record { answer = d.answer; result = d.result }
 
 module _ (w work buffer : List ℕ) where
@@ -96,17 +94,17 @@ module _ (w work buffer : List ℕ) where
   abbrev lines : List Line
   lines = icfl_lines w (length work) (length buffer)
 
-  done : {r : Result ℕ Refusal} {work' buffer' : List ℕ} → Filled lines (length (separated_icfl_ends w)) (separated_pairs w) buffer r buffer'
-      → (work' ≡ cleared (3 * length w) work unless lines then work_after (3 * length w) work) → IcflDone [] w work buffer r work' buffer'
+  done : {said : Says ℕ} {work' buffer' : List ℕ} → Filled lines (length (separated_icfl_ends w)) (separated_pairs w) buffer said buffer'
+      → (work' ≡ cleared (3 * length w) work unless lines then work_after (3 * length w) work) → IcflDone [] w work buffer said work' buffer'
   done f y = record { answer = f.answer; result = f.result; worked = y }
 
-  pub work-refused : {e : Refusal} → Refused (number_of e) ≡ tried (work_lines w (length work)) → IcflDone [] w work buffer (Err e) work buffer
+  pub work-refused : {m : ℕ} → Refused m ≡ tried (work_lines w (length work)) → IcflDone [] w work buffer (refuses m) work buffer
   work-refused e = done (filled-at-door (work_lines w (length work)) room _ _ _ e) (refused-worked w work room refl e)
 
   -- past line 3 the work buffer is cleared, whatever line 4 says
   pub pairs-tried : tried (work_lines w (length work)) ≡ Passed → {found : Found} {work₁ work₂ : List ℕ} → CutFound w work found work₁
-      → {r : Result ℕ Refusal} {buffer' : List ℕ} → PairsFilled w buffer r buffer' → work₂ ≡ cleared (3 * length w) work₁
-      → IcflDone [] w work buffer r work₂ buffer'
+      → {said : Says ℕ} {buffer' : List ℕ} → PairsFilled w buffer said buffer' → work₂ ≡ cleared (3 * length w) work₁
+      → IcflDone [] w work buffer said work₂ buffer'
   pairs-tried p x f y = done (filled-past-door (work_lines w (length work)) p f) (cut-worked w work room refl p x y)
 
 -- the two ways through a door
@@ -117,15 +115,15 @@ module _ (door : List Line) (w work buffer : List ℕ) where
   abbrev count : Says ℕ
   count = gives (length (separated_icfl_ends w))
 
-  pub icfl-at-door : NoFour door → {e : Refusal} → Refused (number_of e) ≡ tried door → IcflDone door w work buffer (Err e) work buffer
+  pub icfl-at-door : NoFour door → {m : ℕ} → Refused m ≡ tried door → IcflDone door w work buffer (refuses m) work buffer
   icfl-at-door no-four e = record {
     answer = refused-at-door door own count (λ (i : ℕ). refuses i) e;
     result = refused-at-door door own (written (separated_pairs w) buffer) (λ (i : ℕ). buffer) e;
     worked = at-door-worked door own (3 * length w) work no-four e;
   }
 
-  pub icfl-past-door : {r : Result ℕ Refusal} {work' buffer' : List ℕ} → tried door ≡ Passed → IcflDone [] w work buffer r work' buffer'
-      → IcflDone door w work buffer r work' buffer'
+  pub icfl-past-door : {said : Says ℕ} {work' buffer' : List ℕ} → tried door ≡ Passed → IcflDone [] w work buffer said work' buffer'
+      → IcflDone door w work buffer said work' buffer'
   icfl-past-door p d = record {
     answer = d.answer ∙ past-door door own count (λ (i : ℕ). refuses i) p;
     result = d.result ∙ past-door door own (written (separated_pairs w) buffer) (λ (i : ℕ). buffer) p;
@@ -134,7 +132,7 @@ module _ (door : List Line) (w work buffer : List ℕ) where
 
 -- ---- what a result tells: as many pairs as the answer says stand at the buffer's front
 
-module _ {door : List Line} {w work buffer : List ℕ} {n : ℕ} {work' buffer' : List ℕ} (d : IcflDone door w work buffer (Ok n) work' buffer') where
+module _ {door : List Line} {w work buffer : List ℕ} {n : ℕ} {work' buffer' : List ℕ} (d : IcflDone door w work buffer (gives n) work' buffer') where
   pub pairs-counted : n ≡ length (separated_icfl_ends w)
   pairs-counted = (filled-counted (icfl-filled d)).1
 

@@ -1,12 +1,11 @@
 -- DEFINITIONS. What the piece cut answers, writes and leaves in the work buffer (IcflDone).
-use Rattle.std.specs.Prelude.{◌≡◌, true, false, List, [], ◌∷◌, ◌++◌, ℕ, ◌*◌, ◌≤◌, length, eqb, Result}
+use Rattle.std.specs.Prelude.{◌≡◌, true, false, List, [], ◌∷◌, ◌++◌, ℕ, ◌*◌, ◌≤◌, length, eqb}
 use Rattle.words.specs.Words.{most_letters}
 use Rattle.words.specs.Separated.{separated_icfl_ends}
 use Rattle.words.specs.Pairs.{separated_pairs}
 use Rattle.buffers.specs.Buffers.{cleared, written}
 use Rattle.checks.specs.Lines.{Line, ◌unless◌then◌, work_line, result_line}
-use Rattle.checks.specs.Answers.{Says, gives, refuses, count_says, Filled}
-use Rattle.checks.specs.declared.refusals.Refusal.{Refusal}
+use Rattle.checks.specs.Answers.{Says, gives, refuses, Filled}
 
 -- the piece cut's own lines, tried past those at its door: 3 before its work, then 4, which "counts both numbers" of an entry (request 108)
 abbrev pub icfl_lines : List ℕ → ℕ → ℕ → List Line
@@ -29,8 +28,8 @@ abbrev pub icfl_work : (door : List Line) (w work pairs : List ℕ) → List ℕ
 icfl_work door w work pairs = cleared (3 * length w) work unless door ++ icfl_lines w (length work) (length pairs) then work_after (3 * length w) work
 
 -- the call's promise
-pub record IcflDone (door : List Line) (w work pairs : List ℕ) (r : Result ℕ Refusal) (work' pairs' : List ℕ) : Type 0 where
-  pub answer : count_says r ≡ icfl_answer door w work pairs
+pub record IcflDone (door : List Line) (w work pairs : List ℕ) (said : Says ℕ) (work' pairs' : List ℕ) : Type 0 where
+  pub answer : said ≡ icfl_answer door w work pairs
   pub result : pairs' ≡ icfl_result door w work pairs
   pub worked : work' ≡ icfl_work door w work pairs
 
@@ -42,6 +41,6 @@ pub record EndsFound (w ends : List ℕ) : Type 0 where
   pub right : ends ≡ separated_icfl_ends w
 
 -- line 4 alone is tried
-abbrev pub PairsFilled : (w pairs : List ℕ) → Result ℕ Refusal → List ℕ → Type 0
-PairsFilled w pairs r pairs' =
-    Filled (result_line (length pairs) (2 * length (separated_icfl_ends w)) ∷ []) (length (separated_icfl_ends w)) (separated_pairs w) pairs r pairs'
+abbrev pub PairsFilled : (w pairs : List ℕ) → Says ℕ → List ℕ → Type 0
+PairsFilled w pairs said pairs' =
+    Filled (result_line (length pairs) (2 * length (separated_icfl_ends w)) ∷ []) (length (separated_icfl_ends w)) (separated_pairs w) pairs said pairs'

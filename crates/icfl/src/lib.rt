@@ -3,6 +3,7 @@
 
 ghost use Rattle.std.specs.Prelude.{[]};
 ghost use Rattle.checks.specs.Lines.{record_lines};
+ghost use Rattle.checks.specs.Answers.{count_says};
 ghost use Rattle.icfl.specs.Icfl.{EndsFound, PairsFilled, IcflDone};
 
 use checks::{Record, Refusal};
@@ -10,7 +11,7 @@ use checks::{Record, Refusal};
 // Line 4, and the pairs, given the ends of the factors. Answers the number of factors.
 fn fill_pairs(word: &[u8], ends: &[u16], pairs: &mut [u16]) -> Result<usize, Refusal>
     requires { EndsFound word.now ends.now }
-    ensures { PairsFilled word.now pairs.old result pairs.new }
+    ensures { PairsFilled word.now pairs.old (count_says result) pairs.new }
 {
     let count = ends.len();
     checks::check_result(pairs.len(), pairs::entries(count))?;
@@ -20,7 +21,7 @@ fn fill_pairs(word: &[u8], ends: &[u16], pairs: &mut [u16]) -> Result<usize, Ref
 
 /// The piece cut of an accepted record: the call's own lines, 3 and 4, and its work.
 pub fn cut(record: Record, work: &mut [u16], pairs: &mut [u16]) -> Result<usize, Refusal>
-    ensures { IcflDone [] record.entry.letters.now work.old pairs.old result work.new pairs.new }
+    ensures { IcflDone [] record.entry.letters.now work.old pairs.old (count_says result) work.new pairs.new }
 {
     let word = record.letters;
     let n = word.len();
@@ -36,7 +37,7 @@ pub fn cut(record: Record, work: &mut [u16], pairs: &mut [u16]) -> Result<usize,
 /// Refusals 1, 2, 3, 4; a pair is two entries. After a result and after 4 the first entries of `work`, three for each
 /// letter, are zero.
 pub fn icfl(word: &[u8], work: &mut [u16], pairs: &mut [u16]) -> Result<usize, Refusal>
-    ensures { IcflDone (record_lines word.now) word.now work.old pairs.old result
+    ensures { IcflDone (record_lines word.now) word.now work.old pairs.old (count_says result)
         work.new pairs.new }
 {
     let record = Record::admit(word)?;

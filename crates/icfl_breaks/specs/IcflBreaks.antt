@@ -17,18 +17,14 @@ use Rattle.icfl_breaks.specs.declared.Counts.{Counts}
 abbrev pub breaks_lines : List ℕ → (work pairs breaks : ℕ) → List Line
 breaks_lines w work pairs breaks = icfl_lines w work pairs ++ result_line breaks (5 * length (separated_breaks w)) ∷ []
 
--- the type of the call's answer
-abbrev pub BreaksAnswer : Type 0
-BreaksAnswer = Result Counts Refusal
-
 -- what each case says: "both counts"
-abbrev pub breaks_says : BreaksAnswer → Says (ℕ × ℕ)
+abbrev pub breaks_says : Result Counts Refusal → Says (ℕ × ℕ)
 breaks_says r = says_by (λ (counts : Counts). (counts.factors, counts.breaks)) r
 
 -- the call's promise behind the lines of a door: "A further call, which checks and leaves the work buffer as the piece cut does, gives beside the ends every
 -- break the cut considered, and both counts"; "Result buffers are untouched by a refusal."
-pub record BreaksDone (door : List Line) (w work pairs breaks : List ℕ) (r : BreaksAnswer) (work' pairs' breaks' : List ℕ) : Type 0 where
-  pub answer : breaks_says r ≡ gives (length (separated_icfl_ends w), length (separated_breaks w))
+pub record BreaksDone (door : List Line) (w work pairs breaks : List ℕ) (said : Says (ℕ × ℕ)) (work' pairs' breaks' : List ℕ) : Type 0 where
+  pub answer : said ≡ gives (length (separated_icfl_ends w), length (separated_breaks w))
       unless door ++ breaks_lines w (length work) (length pairs) (length breaks) then refuses
   pub pairs-are : pairs' ≡ written (separated_pairs w) pairs unless door ++ breaks_lines w (length work) (length pairs) (length breaks) then (λ number. pairs)
   pub breaks-are : breaks' ≡ written (entries_of_breaks (separated_breaks w)) breaks
@@ -52,8 +48,8 @@ abbrev pub room_lines : (pairs breaks factors count : ℕ) → List Line
 room_lines pairs breaks factors count = result_line pairs (2 * factors) ∷ result_line breaks (5 * count) ∷ []
 
 -- they alone are tried
-pub record BothFilled (w pairs breaks : List ℕ) (r : BreaksAnswer) (pairs' breaks' : List ℕ) : Type 0 where
-  pub answer : breaks_says r ≡ gives (length (separated_icfl_ends w), length (separated_breaks w))
+pub record BothFilled (w pairs breaks : List ℕ) (said : Says (ℕ × ℕ)) (pairs' breaks' : List ℕ) : Type 0 where
+  pub answer : said ≡ gives (length (separated_icfl_ends w), length (separated_breaks w))
       unless room_lines (length pairs) (length breaks) (length (separated_icfl_ends w)) (length (separated_breaks w)) then refuses
   pub pairs-are : pairs' ≡ written (separated_pairs w) pairs
       unless room_lines (length pairs) (length breaks) (length (separated_icfl_ends w)) (length (separated_breaks w)) then (λ number. pairs)

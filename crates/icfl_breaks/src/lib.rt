@@ -3,7 +3,7 @@
 
 ghost use Rattle.std.specs.Prelude.{[]};
 ghost use Rattle.checks.specs.Lines.{record_lines};
-ghost use Rattle.icfl_breaks.specs.IcflBreaks.{CutsKnown, BothFilled, BreaksDone};
+ghost use Rattle.icfl_breaks.specs.IcflBreaks.{CutsKnown, BothFilled, BreaksDone, breaks_says};
 
 use breaks::Found;
 use checks::{Record, Refusal};
@@ -24,7 +24,7 @@ fn fill_both(
     breaks: &mut [u16],
 ) -> Result<Counts, Refusal>
     requires { CutsKnown word.now work.now found }
-    ensures { BothFilled word.now pairs.old breaks.old result pairs.new breaks.new }
+    ensures { BothFilled word.now pairs.old breaks.old (breaks_says result) pairs.new breaks.new }
 {
     let ends = &work[found.first..word.len()];
     let counts = Counts {
@@ -45,8 +45,8 @@ pub fn cut_with_breaks(
     pairs: &mut [u16],
     breaks: &mut [u16],
 ) -> Result<Counts, Refusal>
-    ensures { BreaksDone [] record.entry.letters.now work.old pairs.old breaks.old result
-        work.new pairs.new breaks.new }
+    ensures { BreaksDone [] record.entry.letters.now work.old pairs.old breaks.old (breaks_says result)
+                work.new pairs.new breaks.new }
 {
     let word = record.letters;
     let n = word.len();
@@ -67,8 +67,8 @@ pub fn icfl_with_breaks(
     pairs: &mut [u16],
     breaks: &mut [u16],
 ) -> Result<Counts, Refusal>
-    ensures { BreaksDone (record_lines word.now) word.now work.old pairs.old breaks.old result
-        work.new pairs.new breaks.new }
+    ensures { BreaksDone (record_lines word.now) word.now work.old pairs.old breaks.old (breaks_says result)
+                work.new pairs.new breaks.new }
 {
     let record = Record::admit(word)?;
     cut_with_breaks(record, work, pairs, breaks)

@@ -66,12 +66,12 @@ pub record Replied (places : List (Result ℕ Refusal)) (replies : List Reply) (
 pub replied-starts : (places : List (Result ℕ Refusal)) → Replied places (map reply_of (places_of [])) 0
 replied-starts places = record { front = refl; inside = omega arith }
 
-module _ {places : List (Result ℕ Refusal)} {records : ℕ} (s : SmallBatch (Ok places) records) where
+module _ (places : List (Result ℕ Refusal)) {records : ℕ} (s : SmallBatch (0, says_of places) records) where
   pub place-small : (i : ℕ) → SmallCount (count_says (get_or places i (Ok 0)))
   place-small i = rw (says_at places i, s.placed) (placed-small s.answers (most_records - length s.answers) i (s.small i))
 
   pub replied-on : {replies : List Reply} {i : ℕ} (x : Reply) → Replied places replies i → i < most_records
-      → (x.refusal, x.count) ≡ count_numbers (get_or places i (Ok 0)) → Replied places (set replies i x) (i + 1)
+      → (x.refusal, x.count) ≡ count_numbers (count_says (get_or places i (Ok 0))) → Replied places (set replies i x) (i + 1)
   replied-on {replies} {i} x g l e =
       let said = says_of places in
       let full : length said ≡ most_records = ap length s.placed ∙ placed-length s.answers s.few in

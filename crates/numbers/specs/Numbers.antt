@@ -1,13 +1,10 @@
 -- DEFINITIONS. The answers of the library's calls as numbers: the refusal's number, 0 for a result, and beside it the result's numbers, 0 with a refusal.
-use Rattle.std.specs.Prelude.{◌≡◌, List, [], map, ℕ, ◌≤◌, ◌<◌, length, get_or, ℤ, pos, Result}
+use Rattle.std.specs.Prelude.{◌≡◌, List, [], map, ℕ, ◌≤◌, ◌<◌, length, get_or, ℤ, pos}
 use Rattle.conditions.specs.Conditions.{most_records}
-use Rattle.checks.specs.Answers.{checked_number, Says, gives, checked, values_or, count_says}
-use Rattle.checks.specs.declared.refusals.Refusal.{Refusal}
-use Rattle.extension.specs.Extension.{TestAnswer, test_says}
-use Rattle.icfl_breaks.specs.IcflBreaks.{BreaksAnswer, breaks_says}
-use Rattle.batch.specs.Batch.{BatchAnswer, batch_says, places_of}
-use Rattle.compare.specs.Compare.{ComparisonAnswer, comparison_says}
-use Rattle.summary.specs.Summary.{SummaryAnswer, summary_says, no_summary}
+use Rattle.checks.specs.Answers.{checked_number, Says, gives, checked, values_or}
+use Rattle.batch.specs.Batch.{places_of}
+use Rattle.summary.specs.declared.Summary.{Summary}
+use Rattle.summary.specs.Summary.{no_summary}
 use Rattle.numbers.specs.declared.Reply.{Reply}
 use Rattle.numbers.specs.declared.Replies.{Replies}
 use Rattle.numbers.specs.declared.SummaryReply.{SummaryReply}
@@ -17,33 +14,33 @@ abbrev pub numbers_or : {A : Type 0} → A → Says A → ℕ × A
 numbers_or none said = (checked_number (checked said), values_or none said)
 
 -- the refusal, the count
-abbrev pub count_numbers : Result ℕ Refusal → ℕ × ℕ
-count_numbers a = numbers_or 0 (count_says a)
+abbrev pub count_numbers : Says ℕ → ℕ × ℕ
+count_numbers said = numbers_or 0 said
 
 -- the refusal, L, |p| and |r|
-abbrev pub test_numbers : TestAnswer → ℕ × ℕ × ℕ × ℕ
-test_numbers a = let (number, values) = numbers_or [] (test_says a) in (number, get_or values 0 0, get_or values 1 0, get_or values 2 0)
+abbrev pub test_numbers : Says (List ℕ) → ℕ × ℕ × ℕ × ℕ
+test_numbers said = let (number, values) = numbers_or [] said in (number, get_or values 0 0, get_or values 1 0, get_or values 2 0)
 
 -- the refusal, the number of factors, that of breaks
-abbrev pub breaks_numbers : BreaksAnswer → ℕ × ℕ × ℕ
-breaks_numbers a = let (number, (factors, breaks)) = numbers_or (0, 0) (breaks_says a) in (number, factors, breaks)
+abbrev pub breaks_numbers : Says (ℕ × ℕ) → ℕ × ℕ × ℕ
+breaks_numbers said = let (number, (factors, breaks)) = numbers_or (0, 0) said in (number, factors, breaks)
 
 -- the refusal, the sign, how far the two agree
-abbrev pub comparison_numbers : ComparisonAnswer → ℕ × ℤ × ℕ
-comparison_numbers a = let (number, (sign, common)) = numbers_or (pos 0, 0) (comparison_says a) in (number, sign, common)
+abbrev pub comparison_numbers : Says (ℤ × ℕ) → ℕ × ℤ × ℕ
+comparison_numbers said = let (number, (sign, common)) = numbers_or (pos 0, 0) said in (number, sign, common)
 
 -- the same two numbers as of a count, for each place of a batch
 abbrev pub reply_of : Says ℕ → Reply
 reply_of said = let (number, count) = numbers_or 0 said in record { refusal = number; count = count }
 
 -- the refusal, and a reply for each place
-abbrev pub batch_numbers : BatchAnswer → Replies
-batch_numbers b = let (number, places) = batch_says b in record { refusal = number; replies = map reply_of places }
+abbrev pub batch_numbers : ℕ × List (Says ℕ) → Replies
+batch_numbers said = let (number, places) = said in record { refusal = number; replies = map reply_of places }
 
 -- the refusal, and the summary's numbers
-abbrev pub summary_numbers : SummaryAnswer → SummaryReply
-summary_numbers a =
-    let (number, s) = numbers_or no_summary (summary_says a) in
+abbrev pub summary_numbers : Says Summary → SummaryReply
+summary_numbers said =
+    let (number, s) = numbers_or no_summary said in
     record { refusal = number; count = s.count; longest = s.longest; from = s.from; bands = s.bands }
 
 -- ---- what the functions ask: that the numbers fit
@@ -65,9 +62,9 @@ abbrev pub SmallComparison : Says (ℤ × ℕ) → Type 0
 SmallComparison said = Small (values_or (pos 0, 0) said).1
 
 -- the places say what at most so many answers do, each with a count that fits
-pub record SmallBatch (b : BatchAnswer) (records : ℕ) : Type 0 where
+pub record SmallBatch (said : ℕ × List (Says ℕ)) (records : ℕ) : Type 0 where
   pub answers : List (Says ℕ)
-  pub placed : (batch_says b).1 ≡ places_of answers
+  pub placed : said.1 ≡ places_of answers
   pub small : (i : ℕ) → SmallCount (get_or answers i (gives 0))
   pub within : length answers ≤ records
   pub few : length answers ≤ most_records

@@ -7,6 +7,8 @@ ghost use Rattle.checks.specs.Answers.{count_says};
 ghost use Rattle.extension.specs.Extension.{test_says};
 ghost use Rattle.icfl_breaks.specs.IcflBreaks.{breaks_says};
 ghost use Rattle.compare.specs.Compare.{comparison_says};
+ghost use Rattle.batch.specs.Batch.{batch_says};
+ghost use Rattle.summary.specs.Summary.{summary_says};
 ghost use Rattle.numbers.specs.Numbers.{count_numbers, test_numbers, breaks_numbers, comparison_numbers, batch_numbers, summary_numbers};
 ghost use Rattle.numbers.specs.Numbers.{SmallCount, SmallTest, SmallBreaks, SmallComparison, SmallBatch};
 
@@ -47,7 +49,7 @@ pub struct SummaryReply {
 // A count or a refusal.
 fn numbers_of(answer: Result<usize, Refusal>) -> Reply
     requires { SmallCount (count_says answer) }
-    ensures { (result.refusal, result.count) ≡ count_numbers answer }
+    ensures { (result.refusal, result.count) ≡ count_numbers (count_says answer) }
 {
     match answer {
         Ok(n) => Reply {
@@ -64,7 +66,7 @@ fn numbers_of(answer: Result<usize, Refusal>) -> Reply
 /// Leaves the count, and gives the refusal's number.
 pub fn tell_count(answer: Result<usize, Refusal>, count: &mut u16) -> u8
     requires { SmallCount (count_says answer) }
-    ensures { (result, count.new) ≡ count_numbers answer }
+    ensures { (result, count.new) ≡ count_numbers (count_says answer) }
 {
     let numbers = numbers_of(answer);
     *count = numbers.count;
@@ -79,7 +81,7 @@ pub fn tell_test(
     border: &mut u16,
 ) -> u8
     requires { SmallTest (test_says answer) }
-    ensures { (result, failing.new, prefix.new, border.new) ≡ test_numbers answer }
+    ensures { (result, failing.new, prefix.new, border.new) ≡ test_numbers (test_says answer) }
 {
     *failing = 0;
     *prefix = 0;
@@ -99,7 +101,7 @@ pub fn tell_test(
 /// Leaves the number of factors and that of breaks, and gives the refusal's number.
 pub fn tell_breaks(answer: Result<Counts, Refusal>, count: &mut u16, break_count: &mut u16) -> u8
     requires { SmallBreaks (breaks_says answer) }
-    ensures { (result, count.new, break_count.new) ≡ breaks_numbers answer }
+    ensures { (result, count.new, break_count.new) ≡ breaks_numbers (breaks_says answer) }
 {
     match answer {
         Ok(counts) => {
@@ -118,7 +120,7 @@ pub fn tell_breaks(answer: Result<Counts, Refusal>, count: &mut u16, break_count
 /// Leaves the sign and how far the two agree, and gives the refusal's number.
 pub fn tell_comparison(answer: Result<Order, Refusal>, sign: &mut i8, common: &mut u16) -> u8
     requires { SmallComparison (comparison_says answer) }
-    ensures { (result, sign.new, common.new) ≡ comparison_numbers answer }
+    ensures { (result, sign.new, common.new) ≡ comparison_numbers (comparison_says answer) }
 {
     match answer {
         Ok(order) => {
@@ -144,7 +146,7 @@ const NO_SUMMARY: Summary = Summary {
 
 /// A summary or a refusal.
 pub fn numbers_of_summary(answer: Result<Summary, Refusal>) -> SummaryReply
-    ensures { result ≡ summary_numbers answer }
+    ensures { result ≡ summary_numbers (summary_says answer) }
 {
     let (refusal, summary) = match answer {
         Ok(summary) => (0, summary),
@@ -163,8 +165,8 @@ pub fn numbers_of_summary(answer: Result<Summary, Refusal>) -> SummaryReply
 /// A batch of so many records: the refusal's number, and a reply for each place. Past the last record both of its
 /// numbers are 0.
 pub fn numbers_of_batch(answer: Result<Answers, Refusal>, records: usize) -> Replies
-    requires { SmallBatch answer records }
-    ensures { result ≡ batch_numbers answer }
+    requires { SmallBatch (batch_says answer) records }
+    ensures { result ≡ batch_numbers (batch_says answer) }
 {
     let mut replies = [Reply {
         refusal: 0,

@@ -4,7 +4,7 @@
 
 ghost use Rattle.std.specs.Prelude.{◌≡◌, []};
 ghost use Rattle.checks.specs.Lines.{record_lines, tried};
-ghost use Rattle.checks.specs.Answers.{outcome};
+ghost use Rattle.checks.specs.Answers.{outcome, count_says};
 ghost use Rattle.runs.specs.Runs.{runs_lines, RunsDone};
 ghost use Rattle.runs.specs.Room.{RoomAsked};
 
@@ -25,7 +25,7 @@ fn check_room(word: &[u8], longest: &mut [u16], entries: usize) -> Result<(), Re
 
 /// The runs of an accepted record: the call's own line, 4, and its work.
 pub fn list_runs(record: Record, runs: &mut [u16]) -> Result<usize, Refusal>
-    ensures { RunsDone [] record.entry.letters.now runs.old result runs.new }
+    ensures { RunsDone [] record.entry.letters.now runs.old (count_says result) runs.new }
 {
     let mut longest = [0u16; checks::MOST];
     check_room(record.letters, &mut longest, runs.len())?;
@@ -36,7 +36,7 @@ pub fn list_runs(record: Record, runs: &mut [u16]) -> Result<usize, Refusal>
 /// period), from entry 0 on, and answers their number. Separators belong to none. Refusals 1, 2, 4; no work buffer is
 /// lent, the call keeps 4,096 entries of its own.
 pub fn runs(word: &[u8], runs: &mut [u16]) -> Result<usize, Refusal>
-    ensures { RunsDone (record_lines word.now) word.now runs.old result runs.new }
+    ensures { RunsDone (record_lines word.now) word.now runs.old (count_says result) runs.new }
 {
     let record = Record::admit(word)?;
     list_runs(record, runs)

@@ -11,9 +11,9 @@ use Rattle.words.specs.Pairs.{ends_of}
 use Rattle.theory.specs.Places.EndsRise.{Rises, done, more}
 use Rattle.theory.specs.Places.EndsRise.{rises-few}
 use Rattle.checks.specs.Lines.{Line, Accepted, tried, decided, Checked, Passed, Refused}
-use Rattle.checks.specs.Answers.{gives, refuses, values_or}
+use Rattle.checks.specs.Answers.{Says, gives, refuses, values_or}
 use Rattle.summary.specs.declared.Summary.{Summary}
-use Rattle.summary.specs.Summary.{summary_lines, lengths_from, bit_length_of, count_of, bands_of, summary_of, no_summary, SummaryAnswer, summary_says, Summarized}
+use Rattle.summary.specs.Summary.{summary_lines, lengths_from, bit_length_of, count_of, bands_of, summary_of, no_summary, Summarized}
 use Rattle.summary.proofs.EndsAdmitted.{EndsAccepted, all-admitted}
 use Rattle.summary.proofs.BitLengths.{bit-length-most, bit-length-some}
 use Rattle.summary.specs.Tallies.{bands_from}
@@ -55,8 +55,8 @@ pub bands-sum : (n : ℕ) (es : List ℕ) → Rises n 0 es → n ≤ most_letter
 bands-sum n es r l = rw (bands-are-counts es) (bands-sum-from r l)
 
 -- beside a refusal all are 0
-pub summary-bands-sum : {door : List Line} {w ps : List ℕ} {r : SummaryAnswer} → (tried door ≡ Passed → Accepted w) → Summarized door w ps r
-    → let s = values_or no_summary (summary_says r) in sum ◌+◌ 0 s.bands ≡ s.count
+pub summary-bands-sum : {door : List Line} {w ps : List ℕ} {said : Says Summary} → (tried door ≡ Passed → Accepted w) → Summarized door w ps said
+    → let s = values_or no_summary said in sum ◌+◌ 0 s.bands ≡ s.count
 unfolding sum summary_of
 summary-bands-sum {door} {w} {ps} g s = rw s.answer (go (tried (door ++ summary_lines w ps)) (all-admitted door w ps g))
   where

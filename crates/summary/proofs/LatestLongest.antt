@@ -15,7 +15,6 @@ use Rattle.theory.specs.Statements.{Adjacent, here, there}
 use Rattle.theory.specs.Places.Ends.{adjacent-cases, adjacent-one}
 use Rattle.theory.specs.Places.EndsRise.{Rises, done, more}
 use Rattle.theory.specs.Places.Parts.{rises-adjacent}
-use Rattle.std.specs.Prelude.{Ok}
 use Rattle.checks.specs.Lines.{Line, Accepted, tried, decided, Checked, Passed, Refused}
 use Rattle.checks.specs.Answers.{gives, refuses, checked, values_or}
 use Rattle.checks.proofs.LineLaws.{not-both}
@@ -91,7 +90,7 @@ latest-longest {es = es} r l =
     let x = start-latest (greatest (lengths_from 0 es)) r (count-greatest _ (lengths_from 0 es) refl (greatest-some r l)) in
     record { begins = x.begins; most = λ i j p. greatest-most es p; latest = x.latest }
 
-pub summary-latest : {door : List Line} {w ps : List ℕ} {s : Summary} → (tried door ≡ Passed → Accepted w) → Summarized door w ps (Ok s)
+pub summary-latest : {door : List Line} {w ps : List ℕ} {s : Summary} → (tried door ≡ Passed → Accepted w) → Summarized door w ps (gives s)
     → LatestLongest (ends_of ps) s.longest s.from
 unfolding summary_of
 summary-latest {door} {w} {ps} {s} g x = go (tried (door ++ summary_lines w ps)) (all-admitted door w ps g) x.answer

@@ -62,16 +62,13 @@ summary_of es =
 abbrev pub no_summary : Summary
 no_summary = record { count = 0; longest = 0; from = 0; bands = replicate 13 0 }
 
--- the type of the call's answer, and what it says
-abbrev pub SummaryAnswer : Type 0
-SummaryAnswer = Result Summary Refusal
-
-abbrev pub summary_says : SummaryAnswer → Says Summary
+-- what an answer says
+abbrev pub summary_says : Result Summary Refusal → Says Summary
 summary_says r = says_by (λ s. s) r
 
 -- the summary's promise, by the lines at its door: "the summary take[s] the paired list" (request 108), and sums up its ends
-pub record Summarized (door : List Line) (w ps : List ℕ) (r : SummaryAnswer) : Type 0 where
-  pub answer : summary_says r ≡ gives (summary_of (ends_of ps)) unless door ++ summary_lines w ps then refuses
+pub record Summarized (door : List Line) (w ps : List ℕ) (said : Says Summary) : Type 0 where
+  pub answer : said ≡ gives (summary_of (ends_of ps)) unless door ++ summary_lines w ps then refuses
 
 -- ---- inside
 

@@ -6,7 +6,7 @@ ghost use Rattle.std.specs.Prelude.{◌≡◌, ℕ, ◌+◌, List, []};
 ghost use Rattle.words.specs.Pairs.{ends_of};
 ghost use Rattle.checks.specs.Lines.{record_lines};
 ghost use Rattle.summary.specs.Tallies.{Tallied, NextEnd};
-ghost use Rattle.summary.specs.Summary.{bit_length_of, summary_of, Summarized, Summable};
+ghost use Rattle.summary.specs.Summary.{bit_length_of, summary_of, summary_says, Summarized, Summable};
 
 use checks::{Record, Refusal};
 
@@ -86,7 +86,7 @@ pub fn sum_up(pairs: &[u16]) -> Summary
 
 /// The summary for an accepted record: the call's own line, 7, and its work.
 pub fn summarize_pairs(record: Record, pairs: &[u16]) -> Result<Summary, Refusal>
-    ensures { Summarized [] record.entry.letters.now pairs.now result }
+    ensures { Summarized [] record.entry.letters.now pairs.now (summary_says result) }
 {
     checks::check_pairs(pairs, record.letters.len())?;
     Ok(sum_up(pairs))
@@ -94,7 +94,7 @@ pub fn summarize_pairs(record: Record, pairs: &[u16]) -> Result<Summary, Refusal
 
 /// The summary of a record and a paired list. Refusals 1, 2, 7.
 pub fn summarize(word: &[u8], pairs: &[u16]) -> Result<Summary, Refusal>
-    ensures { Summarized (record_lines word.now) word.now pairs.now result }
+    ensures { Summarized (record_lines word.now) word.now pairs.now (summary_says result) }
 {
     let record = Record::admit(word)?;
     summarize_pairs(record, pairs)

@@ -4,13 +4,14 @@
 
 ghost use Rattle.std.specs.Prelude.{[]};
 ghost use Rattle.checks.specs.Lines.{record_lines};
+ghost use Rattle.checks.specs.Answers.{count_says};
 ghost use Rattle.table.specs.Table.{Tabled};
 
 use checks::{Record, Refusal};
 
 /// The start table of an accepted record: the call's own line, 4, and its work.
 pub fn tabulate(record: Record, lengths: &mut [u16]) -> Result<usize, Refusal>
-    ensures { Tabled [] record.entry.letters.now lengths.old result lengths.new }
+    ensures { Tabled [] record.entry.letters.now lengths.old (count_says result) lengths.new }
 {
     let word = record.letters;
     checks::check_result(lengths.len(), word.len())?;
@@ -21,7 +22,7 @@ pub fn tabulate(record: Record, lengths: &mut [u16]) -> Result<usize, Refusal>
 /// The start table: writes the Lyndon table of each stretch between separators, with 1 for a separator, into the first
 /// entries of `lengths`, as many as the word has letters, and answers their number. Refusals 1, 2, 4.
 pub fn lyndon_table(word: &[u8], lengths: &mut [u16]) -> Result<usize, Refusal>
-    ensures { Tabled (record_lines word.now) word.now lengths.old result lengths.new }
+    ensures { Tabled (record_lines word.now) word.now lengths.old (count_says result) lengths.new }
 {
     let record = Record::admit(word)?;
     tabulate(record, lengths)

@@ -33,7 +33,7 @@ overflow_add-used c =
 pub loop-i-preserved : goal.loop-i-preserved
 loop-i-preserved c =
     let g = c.loop-i.invariant in (
-      lent-on g.0 c.loop-i-test.true c.icfl-answer.ensures c.entries_used-used.ensures,
+      lent-on g.0 c.loop-i-test.true c.icfl-answer.result c.icfl-answer.ensures c.entries_used-used.ensures,
       c.icfl-answer.auto.work ∙ g.1,
       rest-length _ _ c.icfl-answer.new.pairs g.0.room c.icfl-answer.auto.pairs ∙ g.2,
     )
