@@ -9,8 +9,8 @@ use Rattle.words.specs.Separated.{separator}
 use Rattle.theory.specs.Stretches.CutSteps.{CutBy, Uncut}
 use Rattle.theory.specs.Stretches.CutSteps.{separator-cut, separator-last, letter-cut, letter-last}
 use Rattle.extension.specs.declared.Extension.{Extension}
-use Rattle.extension.specs.Extension.{extension_values, Verdict}
-use Rattle.extension.proofs.VerdictLaws.{Fails, fails-listed, holds-listed}
+use Rattle.extension.specs.Extension.{Verdict}
+use Rattle.extension.proofs.VerdictLaws.{Fails, fails-is, holds-is}
 use Rattle.cuts.specs.declared.Cut.{Cut}
 use Rattle.cuts.specs.Cutting.{FirstCut}
 
@@ -35,9 +35,9 @@ cut-separator w work e n = record { told = more-letters w e n; kept = refl }
 
 module _ (w work work' : List ℕ) (h : get_or w 0 0 < separator) where
   pub uncut-letter : Verdict w work None work' → FirstCut w work None work'
-  uncut-letter v = record { told = letter-last w h (holds-listed w v.answer); kept = v.kept }
+  uncut-letter v = record { told = letter-last w h (holds-is w v.answer); kept = v.kept }
 
   pub cut-letter : {x : Extension} → 0 < length w → Verdict w work (Some x) work' → FirstCut w work (Some (record { prefix = x.prefix; border = x.border })) work'
   cut-letter {x} s v =
-      let f : Fails w x.failing x.prefix x.border = fails-listed w x.failing x.prefix x.border s v.answer in
+      let f : Fails w x.failing x.prefix x.border = fails-is w s v.answer in
       record { told = rw (f.prefix, f.border) (letter-cut w s h f.not); kept = v.kept }

@@ -1,5 +1,5 @@
 -- What an answer is and what a lent buffer holds, by what the answer says (answer-is, work-is); and what says a refusal (says-refused). For demands-suffice.
-use Rattle.std.specs.Prelude.{◌≡◌, refl, Bool, true, false, List, ℕ, zero, suc}
+use Rattle.std.specs.Prelude.{◌≡◌, refl, Bool, true, false, List, ℕ, zero, suc, ℤ}
 use Rattle.std.proofs.Common.{ap, sym, ◌∙◌, take-append-drop, ne_eqb}
 use Rattle.std.proofs.Math.Decide.{ℕ_discrete}
 use Rattle.buffers.specs.Buffers.{cleared}
@@ -7,8 +7,7 @@ use Rattle.checks.specs.Lines.{decided, Checked, Passed, Refused}
 use Rattle.checks.specs.Answers.{checked_number, numbered, Says, gives, refuses, checked}
 use Rattle.checks.proofs.LineLaws.{not-both}
 use Rattle.icfl.specs.Icfl.{work_after}
-use Rattle.compare.specs.declared.suffixes.Comparison.{Comparison}
-use Rattle.compare.specs.Compare.{comparison_says, sign_of, common_of}
+use Rattle.compare.specs.Compare.{sign_said, common_said}
 use Rattle.demands.specs.Demand1.{UntouchedBut4}
 
 -- ---- the answer says what the lines say, k
@@ -47,6 +46,6 @@ pub says-refused : {A : Type 0} (s : Says A) (number : ℕ) → checked s ≡ Re
 says-refused (gives values) number e = absurd (not-both e refl)
 says-refused (refuses m) number e = ap (λ (t : Checked). refuses (checked_number t)) e
 
-pub comparison-given : (r : Comparison) → checked (comparison_says r) ≡ Passed → comparison_says r ≡ gives (sign_of r, common_of r)
-comparison-given (Comparison.Order s n) e = refl
-comparison-given (Comparison.Refused m) e = absurd (not-both refl e)
+pub comparison-given : (r : Says (ℤ × ℕ)) → checked r ≡ Passed → r ≡ gives (sign_said r, common_said r)
+comparison-given (gives (s, n)) e = refl
+comparison-given (refuses m) e = absurd (not-both refl e)

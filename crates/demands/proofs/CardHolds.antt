@@ -1,15 +1,13 @@
 -- THEOREM card-answered: the answers for the records of a card are those of single calls, one after another (request 105). It holds of all calls that answer and
 -- whose answers meet the promises behind a door that has no line of number 4.
-use Rattle.std.specs.Prelude.{◌≡◌, ℕ, ◌+◌, ◌≤◌, take, drop, Result}
+use Rattle.std.specs.Prelude.{◌≡◌, ℕ, ◌+◌, ◌≤◌, take, drop}
 use Rattle.std.proofs.Common.{ap, sym, ◌∙◌, arith, drop_at}
 use mathlib.Core.List.{List, [], ◌∷◌, ◌++◌, append_assoc, Memᴰ}
 use Rattle.std.proofs.Math.ListN.{length, length-append}
 use Rattle.std.proofs.Math.Seq.{take-append-add, drop-append-add, length-take-le}
 use Rattle.buffers.specs.Buffers.{written}
 use Rattle.checks.specs.Lines.{Door, tried, Passed}
-use Rattle.checks.specs.Answers.{Says, refuses, count_says}
-use Rattle.checks.specs.declared.refusals.Refusal.{Refusal}
-use Rattle.batch.specs.declared.Batch.{Batch}
+use Rattle.checks.specs.Answers.{Says, refuses}
 use Rattle.icfl.specs.Icfl.{icfl_answer, icfl_result, icfl_work}
 use Rattle.icfl.proofs.IcflCases.{NoFour}
 use Rattle.batch.specs.Batch.{records_from, Progress, used_entries, cut_record, cut_records, uncut, batch_of, batch_lines, BatchDone}
@@ -48,14 +46,14 @@ every-member P (x ∷ answers) h a (Memᴰ.tail m) = every-member P answers h.1 
 
 module _ (door : Door) (no-four : (w : List ℕ) → NoFour (door w)) (c : Calls) (m : Meets door c) (t : Total c) where
   single : (w work pairs : List ℕ) → (let lines = door w in
-      (a : Result ℕ Refusal) × (count_says a ≡ icfl_answer lines w work pairs) × c.PieceCut w work pairs a (icfl_work lines w work pairs) (icfl_result lines w work pairs))
+      (a : Says ℕ) × (a ≡ icfl_answer lines w work pairs) × c.PieceCut w work pairs a (icfl_work lines w work pairs) (icfl_result lines w work pairs))
   single w work pairs =
       let a = t.piece_cut w work pairs in
       let d = m.piece_cut w work pairs a.0 a.1 a.2 a.3 in
       (a.0, d.answer, rw (d.worked, d.result) at a.3)
 
   -- one more call, by what its answer says
-  joined : {w work left work₁ left₁ work' left' : List ℕ} {ws : List (List ℕ)} {answers : List (Says ℕ)} (a : Result ℕ Refusal) {s : Says ℕ} → count_says a ≡ s
+  joined : {w work left work₁ left₁ work' left' : List ℕ} {ws : List (List ℕ)} {answers : List (Says ℕ)} (a : Says ℕ) {s : Says ℕ} → a ≡ s
       → c.PieceCut w work left a work₁ left₁ → Singly c ws work₁ (drop (used_entries s) left₁) answers work' left'
       → Singly c (w ∷ ws) work left (s ∷ answers) work' (take (used_entries s) left₁ ++ left')
   joined a e d later = rw (← e) (next d (rw (← e) at later))
@@ -77,7 +75,7 @@ module _ (door : Door) (no-four : (w : List ℕ) → NoFour (door w)) (c : Calls
       rw (parts-behind p.used n p.pairs result l rest (cut_records door q ws).pairs room (folded-pairs door q ws fits))
       (let x = single w p.work (left p) in joined x.0 x.1 x.2 later)
 
-  pub card-answered : (bytes es work pairs work' pairs' : List ℕ) (r : Batch) → BatchDone door bytes es work pairs r work' pairs'
+  pub card-answered : (bytes es work pairs work' pairs' : List ℕ) (r : ℕ × List (Says ℕ)) → BatchDone door bytes es work pairs r work' pairs'
       → tried (batch_lines es (length bytes)) ≡ Passed → CardAnswered c bytes es work pairs r work' pairs'
   card-answered bytes es work pairs work' pairs' r d p =
       let records = records_from 0 es bytes in

@@ -1,5 +1,5 @@
 -- THEOREMS about paper 01's careless cutters, in its order: the demand that shuts each of them out.
-use Rattle.std.specs.Prelude.{◌≡◌, refl, List, [], ◌∷◌, ◌++◌, ℕ, suc, ◌+◌, ◌*◌, ◌≤◌, ◌<◌, length, take, get_or, replicate, Result, Ok, Err}
+use Rattle.std.specs.Prelude.{◌≡◌, refl, List, [], ◌∷◌, ◌++◌, ℕ, suc, ◌+◌, ◌*◌, ◌≤◌, ◌<◌, length, take, get_or, replicate}
 use Rattle.std.proofs.Common.{ap, sym, ◌∙◌, arith, take_at, le-ltb}
 use Rattle.std.proofs.lemmas.List.{length-replicate}
 use Rattle.words.specs.Words.{most_letters}
@@ -11,8 +11,7 @@ use Rattle.theory.specs.Stretches.RecordPairs.{pairs-ends-from, pairs-number}
 use Rattle.theory.proofs.Stretches.RecordPairs.{pairs-entries, pairs-ends}
 use Rattle.buffers.specs.Buffers.{cleared, written}
 use Rattle.checks.specs.Lines.{Line, tried, ◌unless◌then◌, work_line, result_line, Passed}
-use Rattle.checks.specs.Answers.{Filled}
-use Rattle.checks.specs.declared.refusals.Refusal.{Refusal}
+use Rattle.checks.specs.Answers.{Filled, Says, gives, refuses}
 use Rattle.checks.proofs.LineLaws.{not-both, all_pass, both-pass}
 use Rattle.icfl.specs.Icfl.{work_after}
 use Rattle.demands.specs.Demand1.{record_door, Demand1}
@@ -25,7 +24,7 @@ use Rattle.demands.specs.OneCall.{Cut, cutter}
 abbrev pub lines_at : (List ℕ → List ℕ) → List ℕ → ℕ → ℕ → List Line
 lines_at f w work entries = record_door.door w ++ work_line work (3 * length w) ∷ result_line entries (length (f w)) ∷ []
 
-pub record CutsAt (f : List ℕ → List ℕ) (w work pairs : List ℕ) (r : Result ℕ Refusal) (work' pairs' : List ℕ) : Type 0 where
+pub record CutsAt (f : List ℕ → List ℕ) (w work pairs : List ℕ) (r : Says ℕ) (work' pairs' : List ℕ) : Type 0 where
   pub filled : Filled (lines_at f w (length work) (length pairs)) (length (ends_of (f w))) (f w) pairs r pairs'
   pub worked : work' ≡ cleared (3 * length w) work unless lines_at f w (length work) (length pairs) then work_after (3 * length w) work
 
@@ -40,7 +39,7 @@ other-pairs f w s l even n d =
     let own : List Line = work_line (length work) (3 * length w) ∷ result_line (length pairs) (length (f w)) ∷ [] in
     let none : tried (lines_at f w (length work) (length pairs)) ≡ Passed = both-pass (record_door.door w) own (record-door.lets-in w s l) (all_pass own
     (le-ltb (length work) (3 * length w) (omega (arith, size-work)), (le-ltb (length pairs) (length (f w)) (omega (arith, size)), search))) in
-    let cut : CutsAt f w work pairs (Ok (length (ends_of (f w)))) (cleared (3 * length w) work) (written (f w) pairs) =
+    let cut : CutsAt f w work pairs (gives (length (ends_of (f w)))) (cleared (3 * length w) work) (written (f w) pairs) =
     record { filled = record { answer = rw none refl; result = rw none refl }; worked = rw none refl } in
     let gave = d.pieces work pairs _ _ _ cut refl in
     let same : length (separated_icfl_ends w) ≡ length (ends_of (f w)) = sym cc in
@@ -81,40 +80,40 @@ first-p-only = other-ends (λ w. prefix_length w ∷ length w ∷ []) (a ∷ b �
 
 -- ---- other cutters, which leave the work buffer alone; only the answer and the pairs are looked at
 
-abbrev pub Answering : ((w : List ℕ) (work entries : ℕ) → Result ℕ Refusal) → (List ℕ → List ℕ → List ℕ) → Cut
+abbrev pub Answering : ((w : List ℕ) (work entries : ℕ) → Says ℕ) → (List ℕ → List ℕ → List ℕ) → Cut
 Answering answer after w work pairs r work' pairs' = (r ≡ answer w (length work) (length pairs)) × (pairs' ≡ after w pairs) × (work' ≡ work)
 
 -- 4. "One that leaves the buffer alone and reports ends"
-pub buffer-left-alone : ¬ Demand2 (cutter (Answering (λ w work entries. Ok (length (separated_icfl_ends w))) (λ w pairs. pairs))) (a ∷ [])
+pub buffer-left-alone : ¬ Demand2 (cutter (Answering (λ w work entries. gives (length (separated_icfl_ends w))) (λ w pairs. pairs))) (a ∷ [])
 unfolding separated_icfl_ends separated_pairs
 buffer-left-alone d =
-    let gave = d.pieces [] (0 ∷ 0 ∷ []) [] (0 ∷ 0 ∷ []) (Ok 1) (refl, refl, refl) refl in
+    let gave = d.pieces [] (0 ∷ 0 ∷ []) [] (0 ∷ 0 ∷ []) (gives 1) (refl, refl, refl) refl in
     let z : ◌≡◌ {A = ℕ} 0 1 = ap (λ (t : List ℕ). get_or t 0 0) gave.entries in
     omega arith
 
 -- 5. 'One that says "no space" before counting': 4 where the buffer has fewer entries than the record has letters
 pub no-space : ¬ Demand1 record_door (cutter (Answering
-    (λ w work entries. Ok (length (separated_icfl_ends w))
-    unless record_door.door w ++ work_line work (3 * length w) ∷ result_line entries (2 * length w) ∷ [] then Result ℕ Refusal.Refused)
+    (λ w work entries. gives (length (separated_icfl_ends w))
+    unless record_door.door w ++ work_line work (3 * length w) ∷ result_line entries (2 * length w) ∷ [] then refuses)
     (λ w pairs. pairs)))
 unfolding tried separated_icfl_ends
-no-space d = not-both refl (d.piece_cut (b ∷ a ∷ []) (replicate 6 0) (0 ∷ 0 ∷ []) _ _ (Err 4) (refl, refl, refl)).0.first
+no-space d = not-both refl (d.piece_cut (b ∷ a ∷ []) (replicate 6 0) (0 ∷ 0 ∷ []) _ _ (refuses 4) (refl, refl, refl)).0.first
 
 -- 6. "or refuses all"
-pub refuses-all : ¬ Demand1 record_door (cutter (Answering (λ w work entries. Err 3) (λ w pairs. pairs)))
+pub refuses-all : ¬ Demand1 record_door (cutter (Answering (λ w work entries. refuses 3) (λ w pairs. pairs)))
 unfolding tried separated_icfl_ends
-refuses-all d = not-both refl (d.piece_cut (a ∷ []) (replicate 3 0) (0 ∷ 0 ∷ []) _ _ (Err 3) (refl, refl, refl)).0.first
+refuses-all d = not-both refl (d.piece_cut (a ∷ []) (replicate 3 0) (0 ∷ 0 ∷ []) _ _ (refuses 3) (refl, refl, refl)).0.first
 
 -- 7. "One that invents the number of pieces"
-pub invented-count : ¬ Demand2 (cutter (Answering (λ w work entries. Ok (length w + 1)) (λ w pairs. written (separated_pairs w) pairs))) (a ∷ [])
+pub invented-count : ¬ Demand2 (cutter (Answering (λ w work entries. gives (length w + 1)) (λ w pairs. written (separated_pairs w) pairs))) (a ∷ [])
 unfolding separated_icfl_ends separated_pairs
 invented-count d =
-    let gave = d.pieces [] (0 ∷ 0 ∷ []) [] (1 ∷ 1 ∷ []) (Ok 2) (refl, refl, refl) refl in
+    let gave = d.pieces [] (0 ∷ 0 ∷ []) [] (1 ∷ 1 ∷ []) (gives 2) (refl, refl, refl) refl in
     let z : ◌≡◌ {A = ℕ} 2 1 = cc in
     omega arith
 
 -- and one whose refusal carries 0, so that it would pass for a result
-pub refused-by-0 : ¬ Demand1 record_door (cutter (Answering (λ w work entries. Err 0) (λ w pairs. pairs)))
+pub refused-by-0 : ¬ Demand1 record_door (cutter (Answering (λ w work entries. refuses 0) (λ w pairs. pairs)))
 refused-by-0 d =
-    let z : 0 < 0 = (d.piece_cut [] [] [] [] [] (Err 0) (refl, refl, refl)).0.positive 0 refl in
+    let z : 0 < 0 = (d.piece_cut [] [] [] [] [] (refuses 0) (refl, refl, refl)).0.positive 0 refl in
     omega arith

@@ -4,18 +4,14 @@ use Rattle.std.proofs.Common.{◌∙◌}
 use mathlib.Core.List.{List, [], ◌∷◌, ◌++◌}
 use Prim.Native.Nat.{ℕ}
 use native.Mathlib.Omega.{arith}
-use Rattle.std.specs.Prelude.{get_or, replicate, Ok, Err}
+use Rattle.std.specs.Prelude.{get_or, replicate}
 use Rattle.words.specs.Examples.{a}
 use Rattle.words.specs.Separated.{separated_icfl_ends}
 use Rattle.conditions.specs.Conditions.{are_faulty_record_ends}
 use Rattle.checks.specs.Lines.{tried}
 use Rattle.checks.specs.Answers.{numbered, Says, gives, refuses}
-use Rattle.checks.specs.declared.refusals.Refusal.{Refusal}
 use Rattle.checks.proofs.LineLaws.{not-both}
-use Rattle.batch.specs.declared.Batch.{Batch}
-use Rattle.batch.specs.declared.Place.{Place}
-use Rattle.batch.specs.Batch.{used_entries, records_from, cut_record, cut_records, batch_of, says_of, batch_says, places_of, batch_with}
-use Rattle.batch.proofs.Cutting.{blank_with}
+use Rattle.batch.specs.Batch.{used_entries, records_from, cut_record, cut_records, batch_of, places_of, batch_with}
 use Rattle.demands.specs.Calls.{Calls}
 use Rattle.demands.specs.Demand1.{record_door, Demand1}
 use Rattle.demands.specs.Requests.{Singly, none, next}
@@ -25,13 +21,13 @@ use Rattle.demands.specs.OneCall.{Card, card_cutter}
 -- right buffers, and f of the right answers, whatever the list of record ends is
 abbrev Answering : (List (Says ℕ) → List (Says ℕ)) → Card
 Answering f bytes es work pairs r work' pairs' =
-    (batch_says r ≡ batch_with 0 (f (batch_of record_door.door bytes es work pairs).answers))
+    (r ≡ batch_with 0 (f (batch_of record_door.door bytes es work pairs).answers))
     × (work' ≡ (batch_of record_door.door bytes es work pairs).work) × (pairs' ≡ (batch_of record_door.door bytes es work pairs).pairs)
 
 -- one that refuses no list: an empty one is cut as a card without records
 pub refuses-none : ¬ Demand1 record_door (card_cutter (Answering (λ answers. answers)))
 unfolding tried are_faulty_record_ends records_from cut_records
-refuses-none d = not-both refl (sym (d.card [] [] [] [] _ _ (blank_with 0) (refl, refl, refl)).0.first)
+refuses-none d = not-both refl (sym (d.card [] [] [] [] _ _ (batch_with 0 []) (refl, refl, refl)).0.first)
 
 -- ---- other answers for the records: of two, an empty one and a, the second has one factor
 
@@ -46,8 +42,8 @@ module _ (f : List (Says ℕ) → List (Says ℕ)) where
       e.answer ∙ rw (d.worked, d.result, d.answer) refl
 
   -- a card that says a refusal in its second place
-  other-second : (r : Batch) {work' pairs' : List ℕ} → answering.CardCut (a ∷ []) (0 ∷ 1 ∷ []) (replicate 3 0) (0 ∷ 0 ∷ []) r work' pairs'
-      → used_entries (get_or (says_of r.places) 1 (gives 0)) ≡ 0 → ¬ Demands record_door answering
+  other-second : (r : ℕ × List (Says ℕ)) {work' pairs' : List ℕ} → answering.CardCut (a ∷ []) (0 ∷ 1 ∷ []) (replicate 3 0) (0 ∷ 0 ∷ []) r work' pairs'
+      → used_entries (get_or (r.1) 1 (gives 0)) ≡ 0 → ¬ Demands record_door answering
   unfolding records_from
   other-second r h e d =
       let card = d.card (a ∷ []) (0 ∷ 1 ∷ []) (replicate 3 0) (0 ∷ 0 ∷ []) _ _ r h (ap (λ (b : ℕ × List (Says ℕ)). numbered b.0) h.0) in
@@ -64,8 +60,7 @@ until_refused (refuses number ∷ answers) = refuses number ∷ []
 pub stops-at-refusal : ¬ Demands record_door (card_cutter (Answering until_refused))
 unfolding tried records_from cut_record cut_records separated_icfl_ends until_refused
 stops-at-refusal =
-    let refused : Place = record { answer = Err 1 } in
-    other-second until_refused (record { refusal = 0; places = refused ∷ replicate 63 (record { answer = Ok 0 }) }) (refl, refl, refl) refl
+    other-second until_refused (0, refuses 1 ∷ replicate 63 (gives 0)) (refl, refl, refl) refl
 
 -- one whose answers come against the card's order, the last record's first
 unfoldable pub turned : List (Says ℕ) → List (Says ℕ)
@@ -75,6 +70,4 @@ turned (s ∷ answers) = turned answers ++ s ∷ []
 pub last-answer-first : ¬ Demands record_door (card_cutter (Answering turned))
 unfolding tried records_from cut_record cut_records separated_icfl_ends turned
 last-answer-first =
-    let one : Place = record { answer = Ok 1 } in
-    let refused : Place = record { answer = Err 1 } in
-    other-second turned (record { refusal = 0; places = one ∷ refused ∷ replicate 62 (record { answer = Ok 0 }) }) (refl, refl, refl) refl
+    other-second turned (0, gives 1 ∷ refuses 1 ∷ replicate 62 (gives 0)) (refl, refl, refl) refl

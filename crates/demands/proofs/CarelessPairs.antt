@@ -1,5 +1,5 @@
 -- THEOREMS about calls that are careless of pairs (request 108): the demand that shuts each of them out.
-use Rattle.std.specs.Prelude.{◌≡◌, refl, not, List, [], ◌∷◌, ◌++◌, ℕ, ◌*◌, length, get_or, replicate, eqb, Result, Ok}
+use Rattle.std.specs.Prelude.{◌≡◌, refl, not, List, [], ◌∷◌, ◌++◌, ℕ, ◌*◌, length, get_or, replicate, eqb}
 use Rattle.std.proofs.Common.{ap, sym, ◌∙◌, arith}
 use Rattle.std.proofs.Math.Seq.{slice}
 use Rattle.words.specs.Separated.{separated_icfl_ends, separated_cfl_in_ends}
@@ -8,10 +8,10 @@ use Rattle.words.specs.Examples.{a, b}
 use Rattle.conditions.specs.Conditions.{are_faulty_ends}
 use Rattle.pairs.specs.PairedList.{are_faulty_pairs, factor_begin}
 use Rattle.checks.specs.Lines.{Line, ◌when◌, tried, ◌unless◌then◌, work_line, result_line, number_line}
-use Rattle.checks.specs.Answers.{checked_number}
-use Rattle.checks.specs.declared.refusals.Refusal.{Refusal}
+use Rattle.checks.specs.Answers.{checked_number, gives, refuses}
 use Rattle.checks.proofs.LineLaws.{not-both}
-use Rattle.summary.specs.Summary.{summary_lines, summary_of, empty_summary}
+use Rattle.summary.specs.Summary.{summary_lines, summary_of}
+use Rattle.numbers.specs.Numbers.{empty_reply, summary_reply}
 use Rattle.demands.specs.Demand1.{record_door, Demand1}
 use Rattle.demands.specs.Demand2.{Demand2}
 use Rattle.demands.specs.OneCall.{Reader, Summing, cutter, reader, summer}
@@ -39,11 +39,11 @@ two-at-mark f x = other-pairs f (m ∷ []) (omega arith) (omega arith) (rw x ref
 
 -- "Refusal 4 counts both numbers": one that refuses only where there is no room for the ends
 pub room-for-ends : ¬ Demand1 record_door (cutter (Answering
-    (λ w work entries. Ok (length (separated_icfl_ends w))
-    unless record_door.door w ++ work_line work (3 * length w) ∷ result_line entries (length (separated_icfl_ends w)) ∷ [] then Result ℕ Refusal.Refused)
+    (λ w work entries. gives (length (separated_icfl_ends w))
+    unless record_door.door w ++ work_line work (3 * length w) ∷ result_line entries (length (separated_icfl_ends w)) ∷ [] then refuses)
     (λ w pairs. pairs)))
 unfolding tried separated_icfl_ends
-room-for-ends d = not-both refl (sym (d.piece_cut (a ∷ []) (replicate 3 0) (0 ∷ []) _ _ (Ok 1) (refl, refl, refl)).0.first)
+room-for-ends d = not-both refl (sym (d.piece_cut (a ∷ []) (replicate 3 0) (0 ∷ []) _ _ (gives 1) (refl, refl, refl)).0.first)
 
 -- ---- readers and summaries that are right but for the lines that they try
 
@@ -53,7 +53,7 @@ Reads lines w ps k part number =
     × (part ≡ slice (factor_begin (ends_of ps) k) (get_or (ends_of ps) k 0) w unless record_door.door w ++ lines w ps k then (λ e. []))
 
 abbrev Sums : (List ℕ → List ℕ → List Line) → Summing
-Sums lines w ps r = r ≡ summary_of (ends_of ps) unless record_door.door w ++ lines w ps then empty_summary
+Sums lines w ps r = r ≡ summary_reply (ends_of ps) unless record_door.door w ++ lines w ps then empty_reply
 
 -- those that look at the ends alone
 abbrev ends_lines : List ℕ → List ℕ → List Line

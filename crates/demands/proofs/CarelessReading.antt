@@ -7,10 +7,11 @@ use Rattle.words.specs.Examples.{a, b}
 use Rattle.theory.specs.Statements.{here, there}
 use Rattle.pairs.specs.PairedList.{are_faulty_pairs, factor_begin}
 use Rattle.checks.specs.Lines.{tried, ◌unless◌then◌}
-use Rattle.checks.specs.Answers.{checked_number}
+use Rattle.checks.specs.Answers.{checked_number, gives}
 use Rattle.reading.specs.Factor.{factor_lines}
-use Rattle.summary.specs.declared.Summary.{Summary}
-use Rattle.summary.specs.Summary.{summary_lines, lengths_from, greatest, bands_of, summary_of, empty_summary}
+use Rattle.numbers.specs.declared.SummaryReply.{SummaryReply}
+use Rattle.summary.specs.Summary.{summary_lines, lengths_from, greatest, bands_of, summary_of}
+use Rattle.numbers.specs.Numbers.{empty_reply, summary_reply}
 use Rattle.demands.specs.Demand1.{record_door, Demand1}
 use Rattle.demands.specs.Demands.{Demands}
 use Rattle.demands.specs.OneCall.{Reader, Summing, reader, summer}
@@ -39,15 +40,15 @@ read-from-0 d =
 
 -- ---- summaries that are f of the ends, and g beside a refusal
 
-abbrev Tells : (f : List ℕ → Summary) (g : ℕ → Summary) → Summing
+abbrev Tells : (f : List ℕ → SummaryReply) (g : ℕ → SummaryReply) → Summing
 Tells f g w ps r = r ≡ f (ends_of ps) unless record_door.door w ++ summary_lines w ps then g
 
 -- "Where other numbers must stand beside it, as the summary's, they are 0."
-pub count-beside-refusal : ¬ Demand1 record_door (summer (Tells summary_of
+pub count-beside-refusal : ¬ Demand1 record_door (summer (Tells summary_reply
     (λ e. record { refusal = e; count = 1; longest = 0; from = 0; bands = replicate 13 0 })))
 unfolding tried
 count-beside-refusal d =
-    let z : ◌≡◌ {A = ℕ} 1 0 = ap (λ (s : Summary). s.count) ((d.summary [] [] _ refl).1 1 refl) in
+    let z : ◌≡◌ {A = ℕ} 1 0 = ap (λ (s : SummaryReply). s.count) ((d.summary [] [] _ refl).1 1 refl) in
     omega arith
 
 -- "The summary shall name the latest of the longest pieces": one that names the earliest, as paper 01 had it
@@ -56,7 +57,7 @@ earliest_of n a [] = 0
 earliest_of n a (e ∷ es) = elim (eqb (e - a) n) [ true ↦ a | false ↦ earliest_of n e es ]
 
 pub earliest-named : ¬ Demands record_door (summer (Tells (λ es. let longest = greatest (lengths_from 0 es) in
-    record { refusal = 0; count = length es; longest = longest; from = earliest_of longest 0 es; bands = bands_of es }) empty_summary))
+    record { refusal = 0; count = length es; longest = longest; from = earliest_of longest 0 es; bands = bands_of es }) empty_reply))
 unfolding tried are_faulty_pairs ends_of lengths_from greatest earliest_of
 earliest-named d =
     let told = d.summary (a ∷ b ∷ []) (1 ∷ 1 ∷ 2 ∷ 1 ∷ []) _ refl refl in
@@ -64,7 +65,7 @@ earliest-named d =
 
 -- "the number of binary digits": one whose bands lie one too high
 pub bands-too-high : ¬ Demands record_door (summer (Tells (λ es. let right = summary_of es in
-    record { refusal = 0; count = right.count; longest = right.longest; from = right.from; bands = 0 ∷ take 12 right.bands }) empty_summary))
+    record { refusal = 0; count = right.count; longest = right.longest; from = right.from; bands = 0 ∷ take 12 right.bands }) empty_reply))
 unfolding tried are_faulty_pairs ends_of summary_of bands_of
 bands-too-high d =
     let told = d.summary (a ∷ []) (1 ∷ 1 ∷ []) _ refl refl in

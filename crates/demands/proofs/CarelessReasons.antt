@@ -11,12 +11,11 @@ use Rattle.words.specs.declared.Break.{Break}
 use Rattle.words.specs.Examples.{a, b}
 use Rattle.buffers.specs.Buffers.{cleared, written}
 use Rattle.checks.specs.Lines.{Line, tried, ◌unless◌then◌, result_line, Passed}
-use Rattle.checks.specs.Answers.{Says, values_or}
+use Rattle.checks.specs.Answers.{Says, values_or, refuses, gives}
 use Rattle.checks.proofs.LineLaws.{all_pass, both-pass}
 use Rattle.fates.specs.Entries.{entries_of_breaks}
 use Rattle.fates.proofs.EntryLaws.{length-entries}
 use Rattle.icfl.specs.Icfl.{icfl_lines, work_after}
-use Rattle.icfl_breaks.specs.declared.CountedBreaks.{CountedBreaks}
 use Rattle.demands.specs.Demand1.{record_door, Demand1}
 use Rattle.demands.specs.Demand2.{Demand2}
 use Rattle.demands.specs.Meets.{record-door}
@@ -27,10 +26,10 @@ use Rattle.demands.specs.OneCall.{reasoner}
 abbrev reasoned_lines : (List ℕ → List Break) → List ℕ → (work pairs breaks : ℕ) → List Line
 reasoned_lines f w work pairs breaks = record_door.door w ++ icfl_lines w work pairs ++ result_line breaks (5 * length (f w)) ∷ []
 
-pub record ReasonsBy (f : List ℕ → List Break) (end_lines : List ℕ → (work pairs breaks : ℕ) → List Line) (w work pairs breaks : List ℕ) (r : CountedBreaks)
+pub record ReasonsBy (f : List ℕ → List Break) (end_lines : List ℕ → (work pairs breaks : ℕ) → List Line) (w work pairs breaks : List ℕ) (r : Says (ℕ × ℕ))
     (work' pairs' breaks' : List ℕ) : Type 0 where
-  pub answer : r ≡ CountedBreaks.Counts (length (separated_icfl_ends w)) (length (f w)) unless reasoned_lines f w (length work) (length pairs) (length breaks)
-      then CountedBreaks.Refused
+  pub answer : r ≡ gives (length (separated_icfl_ends w), length (f w)) unless reasoned_lines f w (length work) (length pairs) (length breaks)
+      then refuses
   pub pairs-are : pairs' ≡ written (separated_pairs w) pairs unless end_lines w (length work) (length pairs) (length breaks) then (λ number. pairs)
   pub breaks-are : breaks' ≡ written (entries_of_breaks (f w)) breaks unless reasoned_lines f w (length work) (length pairs) (length breaks) then (λ number. breaks)
   pub worked : work' ≡ cleared (3 * length w) work unless reasoned_lines f w (length work) (length pairs) (length breaks) then work_after (3 * length w) work
@@ -39,7 +38,7 @@ pub record ReasonsBy (f : List ℕ → List Break) (end_lines : List ℕ → (wo
 pub ends-before-breaks-fit : ¬ Demand1 record_door (reasoner (ReasonsBy separated_breaks (λ w work pairs breaks. record_door.door w ++ icfl_lines w work pairs)))
 unfolding tried separated_icfl_ends separated_pairs separated_breaks
 ends-before-breaks-fit d =
-    let told = d.reasoned_cut (a ∷ b ∷ []) (replicate 6 0) (replicate 4 0) [] (replicate 6 0) (1 ∷ 1 ∷ 2 ∷ 1 ∷ []) [] (CountedBreaks.Refused 4)
+    let told = d.reasoned_cut (a ∷ b ∷ []) (replicate 6 0) (replicate 4 0) [] (replicate 6 0) (1 ∷ 1 ∷ 2 ∷ 1 ∷ []) [] (refuses 4)
     (record { answer = refl; pairs-are = refl; breaks-are = refl; worked = refl }) in
     let z : ◌≡◌ {A = ℕ} 1 0 = ap (λ (t : List ℕ). get_or t 0 0) (told.1 4 refl) in
     omega arith
@@ -63,7 +62,7 @@ other-breaks f w s l n d =
         (le-ltb (length breaks) (5 * length (f w)) (omega (arith, size-breaks)), search),
       ),
     )) in
-    let cut : ReasonsBy f (reasoned_lines f) w work pairs breaks (CountedBreaks.Counts (length (separated_icfl_ends w)) (length (f w)))
+    let cut : ReasonsBy f (reasoned_lines f) w work pairs breaks (gives (length (separated_icfl_ends w), length (f w)))
     (cleared (3 * length w) work) (written (separated_pairs w) pairs) (written (entries_of_breaks (f w)) breaks) =
     record { answer = rw none refl; pairs-are = rw none refl; breaks-are = rw none refl; worked = rw none refl } in
     let gave = d.reasons work pairs breaks _ _ _ _ cut refl in

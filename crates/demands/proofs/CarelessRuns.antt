@@ -1,13 +1,12 @@
 -- THEOREMS about calls that are careless of repetitions (request 107): the demand that shuts each of them out.
-use Rattle.std.specs.Prelude.{◌≡◌, refl, ℕ, ◌-◌, ◌*◌, length, take, get_or, replicate, Result, Ok, Err}
+use Rattle.std.specs.Prelude.{◌≡◌, refl, ℕ, ◌-◌, ◌*◌, length, take, get_or, replicate}
 use Rattle.std.proofs.Common.{ap, arith}
 use mathlib.Core.List.{List, [], ◌∷◌, ◌++◌, flatten}
 use Rattle.words.specs.Runs.{Triple, runs, separated_runs}
 use Rattle.words.specs.Examples.{a, b}
 use Rattle.buffers.specs.Buffers.{written}
 use Rattle.checks.specs.Lines.{Line, tried, ◌unless◌then◌, result_line}
-use Rattle.checks.specs.Answers.{Says, gives, Filled}
-use Rattle.checks.specs.declared.refusals.Refusal.{Refusal}
+use Rattle.checks.specs.Answers.{Says, gives, Filled, refuses}
 use Rattle.checks.proofs.LineLaws.{not-both}
 use Rattle.inserting.specs.Entries.{entries_of_runs}
 use Rattle.runs.specs.Runs.{runs_lines}
@@ -21,13 +20,13 @@ use Rattle.demands.proofs.RepetitionsHold.{count-only, entries-only}
 -- one that writes before it has counted: with 4, as much of the answer as there is room for
 abbrev WritesFirst : Listing
 WritesFirst w out r out' =
-    (r ≡ Ok (length (separated_runs w)) unless record_door.door w ++ runs_lines w (length out) then Result ℕ Refusal.Refused)
+    (r ≡ gives (length (separated_runs w)) unless record_door.door w ++ runs_lines w (length out) then refuses)
     × (out' ≡ take (length out) (written (entries_of_runs (separated_runs w)) out))
 
 pub written-before-counted : ¬ Demand1 record_door (lister WritesFirst)
 unfolding tried separated_runs flatten
 written-before-counted d =
-    let kept = (d.repetitions (a ∷ a ∷ []) (0 ∷ 0 ∷ []) _ (Err 4) (refl, refl)).1 4 refl in
+    let kept = (d.repetitions (a ∷ a ∷ []) (0 ∷ 0 ∷ []) _ (refuses 4) (refl, refl)).1 4 refl in
     let z : ◌≡◌ {A = ℕ} 2 0 = ap (λ (t : List ℕ). get_or t 1 0) kept in
     omega arith
 
@@ -38,7 +37,7 @@ bound_lines w entries = record_door.door w ++ result_line entries (3 * (length w
 pub no-space-for-most : ¬ Demand1 record_door (lister
     (λ w out r out'. Filled (bound_lines w (length out)) (length (separated_runs w)) (entries_of_runs (separated_runs w)) out r out'))
 unfolding tried separated_runs
-no-space-for-most d = not-both refl (d.repetitions (a ∷ b ∷ []) [] [] (Err 4) (record { answer = refl; result = refl })).0.first
+no-space-for-most d = not-both refl (d.repetitions (a ∷ b ∷ []) [] [] (refuses 4) (record { answer = refl; result = refl })).0.first
 
 -- ---- calls that are right but for the repetitions, which are f w
 
@@ -53,7 +52,7 @@ pub period-doubled : (f : List ℕ → List Triple) → f (a ∷ a ∷ a ∷ a �
 unfolding tried separated_runs flatten
 period-doubled f x d =
     let w : List ℕ = a ∷ a ∷ a ∷ a ∷ [] in
-    let h = d.repetitions w (replicate 6 0) (0 ∷ 4 ∷ 1 ∷ 0 ∷ 4 ∷ 2 ∷ []) (Ok 2) (record { answer = rw x refl; result = rw x refl }) refl in
+    let h = d.repetitions w (replicate 6 0) (0 ∷ 4 ∷ 1 ∷ 0 ∷ 4 ∷ 2 ∷ []) (gives 2) (record { answer = rw x refl; result = rw x refl }) refl in
     let z : ◌≡◌ {A = ℕ} 4 0 = ap (λ (t : List ℕ). get_or t 4 0) (entries-only h) in
     omega arith
 
@@ -63,7 +62,7 @@ unfolding tried separated_runs flatten
 by-period-first f x d =
     let w : List ℕ = a ∷ a ∷ b ∷ a ∷ a ∷ b ∷ [] in
     let out' : List ℕ = 0 ∷ 2 ∷ 1 ∷ 3 ∷ 5 ∷ 1 ∷ 0 ∷ 6 ∷ 3 ∷ [] in
-    let h = d.repetitions w (replicate 9 0) out' (Ok 3) (record { answer = rw x refl; result = rw x refl }) refl in
+    let h = d.repetitions w (replicate 9 0) out' (gives 3) (record { answer = rw x refl; result = rw x refl }) refl in
     let z : ◌≡◌ {A = ℕ} 3 0 = ap (λ (t : List ℕ). get_or t 3 0) (entries-only h) in
     omega arith
 
@@ -71,7 +70,7 @@ by-period-first f x d =
 pub marks-repeated : ¬ Demands record_door (lister (Lists runs))
 unfolding tried runs separated_runs flatten
 marks-repeated d =
-    let h = d.repetitions (255 ∷ 255 ∷ []) (replicate 3 0) _ (Ok 1) (record { answer = refl; result = refl }) refl in
+    let h = d.repetitions (255 ∷ 255 ∷ []) (replicate 3 0) _ (gives 1) (record { answer = refl; result = refl }) refl in
     let z : ◌≡◌ {A = Says ℕ} (gives 1) (gives 0) = count-only h in
     let n : ◌≡◌ {A = ℕ} 1 0 = cc in
     omega arith

@@ -1,16 +1,15 @@
 -- The comparison of calls that meet the demands, for a record of bytes: a result is the right one (comparison-told). For every answer there is a comparison
 -- that gives it, and of that one demand 3 speaks.
-use Rattle.std.specs.Prelude.{◌≡◌, refl, List, ℕ, length}
+use Rattle.std.specs.Prelude.{◌≡◌, refl, List, ℕ, length, ℤ}
 use Rattle.std.proofs.Common.{sym, ◌∙◌}
 use Rattle.std.proofs.Math.Decide.{ℕ_discrete}
 use Rattle.words.specs.Separated.{UpToSeparator}
 use Rattle.theory.specs.Orders.SignLaws.{sign-is, sign-only}
 use Rattle.theory.specs.Orders.CommonWithin.{common-within-is, shared-unique}
 use Rattle.checks.specs.Lines.{Passed}
-use Rattle.checks.specs.Answers.{gives, checked}
+use Rattle.checks.specs.Answers.{gives, checked, Says}
 use Rattle.checks.proofs.LineLaws.{both-passed}
-use Rattle.compare.specs.declared.suffixes.Comparison.{Comparison}
-use Rattle.compare.specs.Compare.{comparison_says, compare_lines, order_of}
+use Rattle.compare.specs.Compare.{compare_lines, order_of}
 use Rattle.compare.proofs.ComparisonLaws.{within}
 use Rattle.demands.specs.Calls.{Calls}
 use Rattle.demands.specs.Demand1.{Doorway}
@@ -19,10 +18,10 @@ use Rattle.demands.specs.Demands.{Demands}
 use Rattle.demands.specs.Meets.{Sound}
 use Rattle.demands.proofs.AnswersTold.{comparison-given}
 
-module _ (d : Doorway) (s : Sound d) (c : Calls) (all : Demands d c) (w : List ℕ) (first end start other : ℕ) (r : Comparison)
+module _ (d : Doorway) (s : Sound d) (c : Calls) (all : Demands d c) (w : List ℕ) (first end start other : ℕ) (r : Says (ℤ × ℕ))
     (h : c.Comparing w first end start other r) where
   abbrev Chosen : (f e s o : ℕ) → Type 0
-  Chosen f e s o = (a : Comparison) × c.Comparing w f e s o a × (f ≡ first → e ≡ end → s ≡ start → o ≡ other → a ≡ r)
+  Chosen f e s o = (a : Says (ℤ × ℕ)) × c.Comparing w f e s o a × (f ≡ first → e ≡ end → s ≡ start → o ≡ other → a ≡ r)
 
   choose : (f e s o : ℕ) → Chosen f e s o
   choose f e s o = go (ℕ_discrete f first) (ℕ_discrete e end) (ℕ_discrete s start) (ℕ_discrete o other)
@@ -37,7 +36,7 @@ module _ (d : Doorway) (s : Sound d) (c : Calls) (all : Demands d c) (w : List �
       go (yes x) (no y) c d = others (λ t. y t.1)
       go (no x) b c d = others (λ t. x t.0)
 
-  pub comparison-told : UpToSeparator w → checked (comparison_says r) ≡ Passed → comparison_says r ≡ gives (order_of w first end start other)
+  pub comparison-told : UpToSeparator w → checked r ≡ Passed → r ≡ gives (order_of w first end start other)
   comparison-told up p =
       let lines = compare_lines (length w) first end start other in
       let passed = both-passed (d.door w) lines (sym (all.first.comparison w first end start other r h).first ∙ p) in

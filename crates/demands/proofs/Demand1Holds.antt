@@ -1,29 +1,28 @@
 -- THEOREM demand-1: the customer's first demand holds of all calls whose answers meet the promises behind a doorway that is sound. What answers say by their
 -- lines: filled-says, breaks-say, card-says.
-use Rattle.std.specs.Prelude.{◌≡◌, refl, Bool, true, false, ◌⊎◌, ℕ, zero, suc, ◌<◌, length, drop, replicate, ltb, Result}
+use Rattle.std.specs.Prelude.{◌≡◌, refl, Bool, true, false, ◌⊎◌, ℕ, zero, suc, ◌<◌, length, drop, replicate, ltb}
 use Rattle.std.proofs.Common.{ap, sym, ◌∙◌, inl, inr, arith, take_at, drop_at, ne_eqb}
 use mathlib.Core.List.{List, [], ◌∷◌, ◌++◌, Memᴰ}
 use Rattle.std.proofs.lemmas.List.{length-replicate}
 use Rattle.words.specs.Pairs.{ends_of}
 use Rattle.buffers.specs.Buffers.{cleared}
 use Rattle.checks.specs.Lines.{Line, Door, tried, decided, ◌unless◌then◌, Checked, Passed, Refused}
-use Rattle.checks.specs.Answers.{numbered, checked_number, Says, checked, count_says, Filled}
-use Rattle.checks.specs.declared.refusals.Refusal.{Refusal}
+use Rattle.checks.specs.Answers.{numbered, checked_number, Says, checked, Filled}
 use Rattle.checks.proofs.LineLaws.{not-both, reading, said, zero-passes, numbered_is}
 use Rattle.checks.proofs.LineLaws.{every_number, every-joined, every-weaker, among, among_first, among_second, first-listed}
 use Rattle.extension.specs.Extension.{verdict_of, extension_lines}
 use Rattle.icfl.specs.Icfl.{work_after}
 use Rattle.icfl.proofs.IcflCases.{icfl-filled}
-use Rattle.icfl_breaks.specs.declared.CountedBreaks.{CountedBreaks}
-use Rattle.icfl_breaks.specs.IcflBreaks.{breaks_lines, breaks_says, BreaksDone}
-use Rattle.batch.specs.declared.Batch.{Batch}
+use Rattle.icfl_breaks.specs.IcflBreaks.{breaks_lines, BreaksDone}
 use Rattle.batch.specs.Batch.{batch_of, batch_with, batch_lines, BatchDone}
 use Rattle.compare.specs.Compare.{compare_lines, order_of}
 use Rattle.reading.specs.Factor.{factor_lines}
-use Rattle.summary.specs.Summary.{summary_lines, summary_of, empty_summary}
+use Rattle.summary.specs.Summary.{summary_lines, summary_of}
+use Rattle.numbers.specs.Numbers.{empty_reply, summary_reply}
+use Rattle.numbers.specs.declared.SummaryReply.{SummaryReply}
 use Rattle.demands.specs.Calls.{Calls}
 use Rattle.demands.specs.Demand1.{Doorway, Answers, AnswersTo, Untouched, UntouchedBut4, Total, Demand1}
-use Rattle.demands.specs.Meets.{Sound, Meets}
+use Rattle.demands.specs.Meets.{Sound, Meets, summary-told}
 
 -- which numbers a call can give is read off its lines
 answers : {k : Checked} (numbers : List ℕ) (lines : List Line) → k ≡ tried lines → every_number (among numbers) lines ≡ true → every_number (ltb 0) lines ≡ true
@@ -42,22 +41,22 @@ answers {k} numbers lines z h p = record {
     above zero y = absurd (not-both y (zero-passes lines p (ap checked_number y)))
     above (suc e) y = omega arith
 
-pub filled-says : {lines : List Line} {n : ℕ} {vs buffer buffer' : List ℕ} {r : Result ℕ Refusal} → Filled lines n vs buffer r buffer' → checked (count_says r) ≡ tried lines
+pub filled-says : {lines : List Line} {n : ℕ} {vs buffer buffer' : List ℕ} {r : Says ℕ} → Filled lines n vs buffer r buffer' → checked r ≡ tried lines
 filled-says {lines} {n} f = said n (tried lines) f.answer
 
-pub breaks-say : {door : List Line} {w work pairs breaks work' pairs' breaks' : List ℕ} {r : CountedBreaks}
-    → BreaksDone door w work pairs breaks r work' pairs' breaks' → checked (breaks_says r) ≡ tried (door ++ breaks_lines w (length work) (length pairs) (length breaks))
+pub breaks-say : {door : List Line} {w work pairs breaks work' pairs' breaks' : List ℕ} {r : Says (ℕ × ℕ)}
+    → BreaksDone door w work pairs breaks r work' pairs' breaks' → checked r ≡ tried (door ++ breaks_lines w (length work) (length pairs) (length breaks))
 breaks-say f = said _ (tried _) f.answer
 
-card-number : {door : Door} {bytes es work pairs work' pairs' : List ℕ} {r : Batch} → BatchDone door bytes es work pairs r work' pairs'
-    → r.refusal ≡ checked_number (tried (batch_lines es (length bytes)))
+card-number : {door : Door} {bytes es work pairs work' pairs' : List ℕ} {r : ℕ × List (Says ℕ)} → BatchDone door bytes es work pairs r work' pairs'
+    → r.0 ≡ checked_number (tried (batch_lines es (length bytes)))
 card-number {door} {bytes} {es} {work} {pairs} f =
     ap (λ (b : ℕ × List (Says ℕ)). b.0) f.answer
     ∙ reading (λ (b : ℕ × List (Says ℕ)). b.0) (batch_with 0 (batch_of door bytes es work pairs).answers) (λ number. batch_with number [])
     (tried (batch_lines es (length bytes)))
 
-pub card-says : {door : Door} {bytes es work pairs work' pairs' : List ℕ} {r : Batch} → BatchDone door bytes es work pairs r work' pairs'
-    → numbered r.refusal ≡ tried (batch_lines es (length bytes))
+pub card-says : {door : Door} {bytes es work pairs work' pairs' : List ℕ} {r : ℕ × List (Says ℕ)} → BatchDone door bytes es work pairs r work' pairs'
+    → numbered r.0 ≡ tried (batch_lines es (length bytes))
 card-says {bytes = bytes} {es = es} f = ap numbered (card-number f) ∙ numbered_is (batch_lines es (length bytes)) refl
 
 -- a buffer that is changed only where no line is met
@@ -76,8 +75,7 @@ untouched-but-4 {k} lines n work {work'} z f = record {
     at-4 : k ≡ Refused 4 → work' ≡ cleared n work
     at-4 y = rw (sym z ∙ y) at f
 
-summary-number : (es : List ℕ) (k : Checked) → (decided k (summary_of es) empty_summary).refusal ≡ checked_number k
-unfolding summary_of
+summary-number : (es : List ℕ) (k : Checked) → (decided k (summary_reply es) empty_reply).refusal ≡ checked_number k
 summary-number es (Refused number) = refl
 summary-number es Passed = refl
 
@@ -138,8 +136,8 @@ module _ (d : Doorway) (s : Sound d) (c : Calls) (m : Meets d.door c) where
         let told = door-numbered w (7 ∷ 8 ∷ []) (factor_lines w ps k) f.number_is refl refl in
         (told, λ e y. rw (sym told.first ∙ y) at f.part-is);
     summary = λ w ps r h.
-        let f = m.summary w ps r h in
-        let number = ap (λ s. s.refusal) f.answer ∙ summary-number (ends_of ps) (tried (d.door w ++ summary_lines w ps)) in
+        let f = summary-told (m.summary w ps r h) in
+        let number = ap (λ (s : SummaryReply). s.refusal) f ∙ summary-number (ends_of ps) (tried (d.door w ++ summary_lines w ps)) in
         let told = door-numbered w (7 ∷ []) (summary_lines w ps) number refl refl in
-        (told, λ e y. rw (sym told.first ∙ y) at f.answer);
+        (told, λ e y. rw (sym told.first ∙ y) at f);
   }

@@ -1,5 +1,5 @@
 -- THEOREM demand-2: the customer's second demand holds of all calls whose answers meet the promises behind a doorway that is sound.
-use Rattle.std.specs.Prelude.{◌≡◌, List, ◌++◌, ℕ, ◌≤◌, ◌<◌, length, drop, get_or, Result}
+use Rattle.std.specs.Prelude.{◌≡◌, List, ◌++◌, ℕ, ◌≤◌, ◌<◌, length, drop, get_or, Option, None, Some}
 use Rattle.std.proofs.Math.Path.{refl}
 use Rattle.std.proofs.Common.{ap, sym, ◌∙◌, arith}
 use Rattle.std.proofs.Math.ListN.{length-drop}
@@ -24,16 +24,14 @@ use Rattle.theory.proofs.Stretches.CflInSteps.{separator-part}
 use Rattle.theory.specs.Stretches.TableEntries.{separated-table-letter, separated-table-separator, separated-table-length}
 use Rattle.buffers.specs.Buffers.{cleared}
 use Rattle.checks.specs.Lines.{Line, tried, Passed}
-use Rattle.checks.specs.Answers.{gives, checked, count_says, Filled}
-use Rattle.checks.specs.declared.refusals.Refusal.{Refusal}
+use Rattle.checks.specs.Answers.{gives, checked, Filled, Says}
 use Rattle.checks.proofs.LineLaws.{said}
-use Rattle.extension.specs.declared.Extension.{Extension}
-use Rattle.extension.specs.Extension.{test_says, verdict_of, extension_lines, ExtensionFound}
+use Rattle.extension.specs.Extension.{verdict_of, extension_lines, ExtensionFound}
 use Rattle.extension.proofs.VerdictLaws.{fails-told, holds-told}
 use Rattle.icfl.specs.Icfl.{icfl_lines, IcflDone}
 use Rattle.icfl.proofs.IcflCases.{icfl-filled}
-use Rattle.icfl_breaks.specs.declared.CountedBreaks.{CountedBreaks}
-use Rattle.icfl_breaks.specs.IcflBreaks.{breaks_lines, breaks_says, BreaksDone}
+use Rattle.icfl_breaks.specs.IcflBreaks.{breaks_lines, BreaksDone}
+use Rattle.extension.specs.declared.Extension.{Extension}
 use Rattle.demands.specs.Calls.{Calls}
 use Rattle.demands.specs.Demand1.{Doorway}
 use Rattle.demands.specs.Demand2.{Gave, GavePairs, GaveBoth, Published, Demand2}
@@ -41,20 +39,20 @@ use Rattle.demands.specs.Meets.{Sound, Meets}
 use Rattle.demands.proofs.Demand1Holds.{filled-says, breaks-say}
 use Rattle.demands.specs.PairsHold.{own_read, own-summed}
 
-gave : {lines : List Line} {n : ℕ} {vs buffer buffer' : List ℕ} {r : Result ℕ Refusal} → n ≡ length vs → Filled lines n vs buffer r buffer' → checked (count_says r) ≡ Passed
+gave : {lines : List Line} {n : ℕ} {vs buffer buffer' : List ℕ} {r : Says ℕ} → n ≡ length vs → Filled lines n vs buffer r buffer' → checked r ≡ Passed
     → Gave vs r buffer buffer'
 gave {lines} z f e =
     let none : tried lines ≡ Passed = sym (filled-says f) ∙ e in
     record { count = (rw none at f.answer) ∙ ap (λ (t : ℕ). gives t) z; entries = rw none at f.result }
 
-gave-pairs : {door : List Line} (w work pairs work' pairs' : List ℕ) (r : Result ℕ Refusal) → IcflDone door w work pairs r work' pairs' → checked (count_says r) ≡ Passed
+gave-pairs : {door : List Line} (w work pairs work' pairs' : List ℕ) (r : Says ℕ) → IcflDone door w work pairs r work' pairs' → checked r ≡ Passed
     → GavePairs w r work pairs work' pairs'
 gave-pairs {door} w work pairs work' pairs' r f e =
     let none : tried (door ++ icfl_lines w (length work) (length pairs)) ≡ Passed = sym (filled-says (icfl-filled f)) ∙ e in
     record { count = rw none at f.answer; entries = rw none at f.result; zeros = rw none at f.worked }
 
-gave-both : {door : List Line} (w work pairs breaks work' pairs' breaks' : List ℕ) (r : CountedBreaks)
-    → BreaksDone door w work pairs breaks r work' pairs' breaks' → checked (breaks_says r) ≡ Passed → GaveBoth w r work pairs breaks work' pairs' breaks'
+gave-both : {door : List Line} (w work pairs breaks work' pairs' breaks' : List ℕ) (r : Says (ℕ × ℕ))
+    → BreaksDone door w work pairs breaks r work' pairs' breaks' → checked r ≡ Passed → GaveBoth w r work pairs breaks work' pairs' breaks'
 gave-both {door} w work pairs breaks work' pairs' breaks' r f e =
     let none : tried (door ++ breaks_lines w (length work) (length pairs) (length breaks)) ≡ Passed = sym (breaks-say f) ∙ e in
     record {
@@ -65,17 +63,17 @@ gave-both {door} w work pairs breaks work' pairs' breaks' r f e =
     }
 
 -- a test that gave a result answers the verdict, and clears its entries
-verdict-is : {door : List Line} (w work work' : List ℕ) (r : Extension) → ExtensionFound door w work r work' → checked (test_says r) ≡ Passed
-    → (test_says r ≡ gives (verdict_of w)) × (work' ≡ cleared (length w) work)
+verdict-is : {door : List Line} (w work work' : List ℕ) (r : Says (Option Extension)) → ExtensionFound door w work r work' → checked r ≡ Passed
+    → (r ≡ gives (verdict_of w)) × (work' ≡ cleared (length w) work)
 verdict-is {door} w work work' r f e =
     let lines = door ++ extension_lines w (length work) in
     let none : tried lines ≡ Passed = sym (said (verdict_of w) (tried lines) f.answer) ∙ e in
     (rw none at f.answer, rw none at f.buffer)
 
-verdict-fails : {door : List Line} (w work work' : List ℕ) (l p r : ℕ) → 0 < length w → ExtensionFound door w work (Extension.Failing l p r) work'
+verdict-fails : {door : List Line} (w work work' : List ℕ) (l p r : ℕ) → 0 < length w → ExtensionFound door w work (gives (Some (record { failing = l; prefix = p; border = r }))) work'
     → BoundedExtension w l p r
 verdict-fails w work work' l p r s f =
-    let told = fails-told w l p r s (verdict-is w work work' (Extension.Failing l p r) f refl).0 in
+    let told = fails-told w s (verdict-is w work work' (gives (Some (record { failing = l; prefix = p; border = r }))) f refl).0 in
     rw (told.failing, told.prefix, told.border) (extension-is w s told.not)
 
 published : (v : List ℕ) → 0 < length v → Published v
@@ -109,10 +107,8 @@ module _ (d : Doorway) (sound : Sound d) (c : Calls) (m : Meets d.door c) (w : L
     joined = stretches-joined w;
     unmarked = stretches-unmarked w;
     published = λ v h. published v;
-    falls = λ work work' h.
-        holds-told w Extension.InverseLyndon (λ l p r e. cc)
-        (verdict-is w work work' Extension.InverseLyndon (m.test w work Extension.InverseLyndon work' h) refl).0;
-    fails = λ work work' l p r h. verdict-fails w work work' l p r s (m.test w work (Extension.Failing l p r) work' h);
+    falls = λ work work' h. holds-told w (verdict-is w work work' (gives None) (m.test w work (gives None) work' h) refl).0;
+    fails = λ work work' l p r h. verdict-fails w work work' l p r s (m.test w work (gives (Some (record { failing = l; prefix = p; border = r }))) work' h);
     tested = λ work work' r h e. (verdict-is w work work' r (m.test w work r work' h) e).1;
     reasons = λ work pairs breaks work' pairs' breaks' r h.
         gave-both w work pairs breaks work' pairs' breaks' r (m.reasoned_cut w work pairs breaks r work' pairs' breaks' h);

@@ -12,18 +12,17 @@ use Rattle.theory.specs.Places.Parts.{rises-below}
 use Rattle.theory.specs.Stretches.Factors.{separated-icfl-ends-rise}
 use Rattle.theory.proofs.Stretches.RecordPairs.{pairs-ends}
 use Rattle.theory.proofs.Stretches.SeparatedDemand3.{separated-demand-3}
-use Rattle.checks.specs.Answers.{gives}
+use Rattle.checks.specs.Answers.{gives, Says}
 use Rattle.checks.proofs.LineLaws.{both-pass, filled-front}
 use Rattle.icfl.proofs.IcflCases.{pairs-front}
-use Rattle.compare.specs.declared.suffixes.Comparison.{Comparison}
-use Rattle.compare.specs.Compare.{comparison_says, sign_said, common_said, sign_of, common_of, compare_lines, order_of}
+use Rattle.compare.specs.Compare.{sign_said, common_said, sign_said, common_said, compare_lines, order_of}
 use Rattle.compare.proofs.ComparisonLaws.{Within, within-passes}
 use Rattle.demands.specs.Calls.{Calls}
 use Rattle.demands.specs.Demand1.{Doorway}
 use Rattle.demands.specs.Demand3.{Inside, Demand3, Given}
 use Rattle.demands.specs.Meets.{Sound, Meets}
 
-module _ (d : Doorway) (sound : Sound d) (c : Calls) (m : Meets d.door c) (w es ss : List ℕ) (compare : ℕ → ℕ → ℕ → ℕ → Comparison)
+module _ (d : Doorway) (sound : Sound d) (c : Calls) (m : Meets d.door c) (w es ss : List ℕ) (compare : ℕ → ℕ → ℕ → ℕ → Says (ℤ × ℕ))
     (r : Given d.most c w es ss compare) where
   pieces_are : es ≡ separated_icfl_ends w
   pieces_are =
@@ -38,7 +37,7 @@ module _ (d : Doorway) (sound : Sound d) (c : Calls) (m : Meets d.door c) (w es 
 
   -- inside an accepted range the comparison answers sign and number
   module _ (first end start other : ℕ) (h : Inside (length w) first end start other) where
-    ordered : comparison_says (compare first end start other) ≡ gives (order_of w first end start other)
+    ordered : compare first end start other ≡ gives (order_of w first end start other)
     ordered =
         let within : Within w first end start other = record {
           inside = h.range;
@@ -51,10 +50,10 @@ module _ (d : Doorway) (sound : Sound d) (c : Calls) (m : Meets d.door c) (w es 
         ∙ rw (both-pass (d.door w) (compare_lines (length w) first end start other) (sound.lets-in w r.nonempty r.short)
         (within-passes w first end start other within))
 
-    signed : sign_of (compare first end start other) ≡ sign w first end start other
+    signed : sign_said (compare first end start other) ≡ sign w first end start other
     signed = ap sign_said ordered
 
-    counted : common_of (compare first end start other) ≡ common_within w first end start other
+    counted : common_said (compare first end start other) ≡ common_within w first end start other
     counted = ap common_said ordered
 
   -- the same two starts in the whole record
@@ -86,16 +85,16 @@ module _ (d : Doorway) (sound : Sound d) (c : Calls) (m : Meets d.door c) (w es 
       other-below = q;
     }
 
-    sign-decided : WholePieces es first end → (sign_of (compare first end start other) ≡ negsuc 0) ⊎ (sign_of (compare first end start other) ≡ pos 1)
+    sign-decided : WholePieces es first end → (sign_said (compare first end start other) ≡ negsuc 0) ⊎ (sign_said (compare first end start other) ≡ pos 1)
     sign-decided g = go (sign-is w first end start other) (signed first end start other (inside g))
       where
-        go : {s : ℤ} → SignOf w first end start other s → sign_of (compare first end start other) ≡ s
-            → (sign_of (compare first end start other) ≡ negsuc 0) ⊎ (sign_of (compare first end start other) ≡ pos 1)
+        go : {s : ℤ} → SignOf w first end start other s → sign_said (compare first end start other) ≡ s
+            → (sign_said (compare first end start other) ≡ negsuc 0) ⊎ (sign_said (compare first end start other) ≡ pos 1)
         go (SignOf.before x k) e = inl e
         go (SignOf.equal z) e = absurd (n z)
         go (SignOf.after x k) e = inr e
 
-    same_sign : UnmarkedPieces w es first end → sign_of (compare first end start other) ≡ sign_of (compare 0 (length w) start other)
+    same_sign : UnmarkedPieces w es first end → sign_said (compare first end start other) ≡ sign_said (compare 0 (length w) start other)
     same_sign g =
         let h = inside g.0 in
         signed first end start other h

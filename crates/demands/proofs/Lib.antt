@@ -30,3 +30,5 @@ pub mod CarelessRuns
 pub mod CarelessPairs
 pub mod CarelessReading
 pub mod CarelessBuffers
+
+

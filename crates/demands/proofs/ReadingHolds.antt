@@ -15,16 +15,17 @@ use Rattle.checks.specs.Lines.{tried, Passed}
 use Rattle.checks.specs.Answers.{numbered}
 use Rattle.checks.proofs.LineLaws.{unmet, both-passed}
 use Rattle.reading.specs.Factor.{factor_lines}
-use Rattle.summary.specs.declared.Summary.{Summary}
+use Rattle.numbers.specs.declared.SummaryReply.{SummaryReply}
 use Rattle.summary.specs.Summary.{summary_lines, summary_of}
 use Rattle.summary.proofs.EndsAdmitted.{all-admitted}
 use Rattle.summary.proofs.BitLengths.{bit-length-digits}
 use Rattle.summary.proofs.LatestLongest.{latest-longest}
 use Rattle.summary.proofs.BandsSum.{bands-sum}
+use Rattle.numbers.specs.Numbers.{summary_reply}
 use Rattle.demands.specs.Calls.{Calls}
 use Rattle.demands.specs.Demand1.{Doorway, Demand1}
 use Rattle.demands.specs.Requests.{PartRead, SummedUp}
-use Rattle.demands.specs.Meets.{Sound, Meets}
+use Rattle.demands.specs.Meets.{Sound, Meets, summary-told}
 
 -- part k lies between the end before it and its own
 part_at : (b : ℕ) (es : List ℕ) (k : ℕ) → k < length es → Adjacent (get_or (b ∷ es) k 0) (get_or es k 0) (b ∷ es)
@@ -44,13 +45,13 @@ module _ (d : Doorway) (s : Sound d) (c : Calls) (m : Meets d.door c) (first : D
       let below = leb-false (length (ends_of ps)) k (unmet (factor_lines w ps k) (both-passed (d.door w) (factor_lines w ps k) none).1).1.0 in
       record { listed = part_at 0 (ends_of ps) k below; part-is = rw none at (m.reader w ps k part number h).part-is }
 
-  pub summed-up : (w ps : List ℕ) (r : Summary) → c.Summing w ps r → numbered r.refusal ≡ Passed → SummedUp (ends_of ps) r
+  pub summed-up : (w ps : List ℕ) (r : SummaryReply) → c.Summing w ps r → numbered r.refusal ≡ Passed → SummedUp (ends_of ps) r
   unfolding summary_of
   summed-up w ps r h e =
       let es : List ℕ = ends_of ps in
       let none : tried (d.door w ++ summary_lines w ps) ≡ Passed = sym (first.summary w ps r h).0.first ∙ e in
       let fit = all-admitted (d.door w) w ps (s.accepts w) none in
-      let is : r ≡ summary_of es = rw none at (m.summary w ps r h).answer in
+      let is : r ≡ summary_reply es = rw none at (summary-told (m.summary w ps r h)) in
       rw is (record {
         count = refl;
         longest = latest-longest fit.rises fit.some;

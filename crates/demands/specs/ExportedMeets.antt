@@ -1,6 +1,6 @@
 -- The answers of the exported functions meet the promises of the calls behind the same door (exported-meets), and are given for all arguments
 -- (exported-total).
-use Rattle.std.specs.Prelude.{◌≡◌, refl, true, get_or, replicate, ltb, ℤ, Result, Ok, Err}
+use Rattle.std.specs.Prelude.{◌≡◌, refl, Bool, true, false, get_or, replicate, ltb, ℤ, Option}
 use Rattle.std.proofs.Math.Path.{ap}
 use Rattle.std.proofs.Common.{sym, ◌∙◌, arith, ne_eqb}
 use mathlib.Core.List.{List, [], ◌∷◌, ◌++◌, map}
@@ -9,28 +9,26 @@ use Rattle.std.proofs.Math.ListN.{length}
 use Rattle.std.proofs.Math.Seq.{slice, slice_empty}
 use Rattle.words.specs.Separated.{separated_icfl_ends}
 use Rattle.words.specs.Pairs.{ends_of}
+use Rattle.words.specs.Words.{is_inverse_lyndon}
+use Rattle.words.specs.Factorizations.{failing_length, prefix_length, border_length}
+use Rattle.theory.specs.Orders.Decisions.{decides-false}
+use Rattle.theory.specs.Lyndon.WordTests.{inverse-lyndon-test}
 use Rattle.theory.specs.Icfl.Failing.{failing-is}
 use Rattle.conditions.specs.Conditions.{most_records}
 use Rattle.pairs.specs.PairedList.{factor_begin}
 use Rattle.checks.specs.Lines.{Line, tried, decided, ◌unless◌then◌, Checked, Passed, Refused}
-use Rattle.checks.specs.Answers.{checked_number, Says, gives, refuses, checked, count_says}
-use Rattle.checks.specs.declared.refusals.Refusal.{Refusal}
+use Rattle.checks.specs.Answers.{checked_number, Says, gives, refuses, checked}
 use Rattle.checks.proofs.LineLaws.{both-passed, every_number, every-joined, reading, said, gave, zero-passes, not-both}
-use Rattle.extension.specs.declared.Extension.{Extension}
-use Rattle.extension.specs.Extension.{test_says, verdict_of, extension_lines}
-use Rattle.extension.proofs.VerdictLaws.{fails-told}
+use Rattle.extension.specs.Extension.{verdict_as, verdict_of, extension_lines}
 use Rattle.icfl.specs.Icfl.{icfl_lines}
-use Rattle.icfl_breaks.specs.declared.CountedBreaks.{CountedBreaks}
-use Rattle.icfl_breaks.specs.IcflBreaks.{breaks_lines, breaks_says}
-use Rattle.compare.specs.declared.suffixes.Comparison.{Comparison}
-use Rattle.compare.specs.Compare.{comparison_says, compare_lines}
-use Rattle.batch.specs.declared.Batch.{Batch}
-use Rattle.batch.specs.declared.Place.{Place}
-use Rattle.batch.specs.Batch.{records_from, uncut, batch_of, says_of, batch_says, batch_with, batch_lines}
+use Rattle.icfl_breaks.specs.IcflBreaks.{breaks_lines}
+use Rattle.compare.specs.Compare.{compare_lines}
+use Rattle.batch.specs.Batch.{records_from, uncut, batch_of, batch_with, batch_lines}
 use Rattle.batch.proofs.FoldLaws.{batch-answers, Every, every-added}
 use Rattle.reading.specs.Factor.{factor_lines, FactorAt}
 use Rattle.numbers.specs.Numbers.{test_numbers, count_numbers, breaks_numbers, reply_of, batch_numbers, comparison_numbers}
 use Rattle.exports.specs.Exports.{factor_numbers}
+use Rattle.extension.specs.declared.Extension.{Extension}
 use Rattle.demands.specs.Calls.{exported_behind, Reads, verdict_by, count_by, counts_by, batch_by, comparison_by}
 use Rattle.demands.specs.Demand1.{Doorway, Total}
 use Rattle.demands.specs.Meets.{Sound, Meets, behind-total}
@@ -43,10 +41,10 @@ read_back numbers by r Allowed back h =
     let given = h.2 in
     rw (h.1 ∙ ap by given.2 ∙ back given.0 given.1) given.1
 
-readable : (a : Result ℕ Refusal) → ¬ (count_says a ≡ refuses 0) → count_by (count_numbers a) ≡ a
-readable (Ok n) h = refl
-readable (Err zero) h = absurd (h refl)
-readable (Err (suc number)) h = refl
+readable : (a : Says ℕ) → ¬ (a ≡ refuses 0) → count_by (count_numbers a) ≡ a
+readable (gives n) h = refl
+readable (refuses zero) h = absurd (h refl)
+readable (refuses (suc number)) h = refl
 
 -- no answer says 0
 module _ (lines : List Line) (positive : every_number (ltb 0) lines ≡ true) where
@@ -55,43 +53,49 @@ module _ (lines : List Line) (positive : every_number (ltb 0) lines ≡ true) wh
       let met : Refused 0 ≡ tried lines = sym (ap checked z) ∙ said values (tried lines) e in
       not-both (sym met) (zero-passes lines positive (ap checked_number (sym met)))
 
-  count-back : (n : ℕ) (a : Result ℕ Refusal) → count_says a ≡ gives n unless lines then refuses → count_by (count_numbers a) ≡ a
+  count-back : (n : ℕ) (a : Says ℕ) → a ≡ gives n unless lines then refuses → count_by (count_numbers a) ≡ a
   count-back n a e = readable a (never-0 n e)
 
-  breaks-back : (ns : ℕ × ℕ) (a : CountedBreaks) → breaks_says a ≡ gives ns unless lines then refuses → counts_by (breaks_numbers a) ≡ a
-  breaks-back ns (CountedBreaks.Counts factors breaks) e = refl
-  breaks-back ns (CountedBreaks.Refused zero) e = absurd (never-0 ns e refl)
-  breaks-back ns (CountedBreaks.Refused (suc number)) e = refl
+  breaks-back : (ns : ℕ × ℕ) (a : Says (ℕ × ℕ)) → a ≡ gives ns unless lines then refuses → counts_by (breaks_numbers a) ≡ a
+  breaks-back ns (gives (factors, breaks)) e = refl
+  breaks-back ns (refuses zero) e = absurd (never-0 ns e refl)
+  breaks-back ns (refuses (suc number)) e = refl
 
-  comparison-back : (values : ℤ × ℕ) (a : Comparison) → comparison_says a ≡ gives values unless lines then refuses → comparison_by (comparison_numbers a) ≡ a
-  comparison-back values (Comparison.Order sign common) e = refl
-  comparison-back values (Comparison.Refused zero) e = absurd (never-0 values e refl)
-  comparison-back values (Comparison.Refused (suc number)) e = refl
+  comparison-back : (values : ℤ × ℕ) (a : Says (ℤ × ℕ)) → a ≡ gives values unless lines then refuses → comparison_by (comparison_numbers a) ≡ a
+  comparison-back values (gives (sign, common)) e = refl
+  comparison-back values (refuses zero) e = absurd (never-0 values e refl)
+  comparison-back values (refuses (suc number)) e = refl
 
   -- L tells the verdict: it is 0 for an inverse Lyndon word alone
-  test_back : (w : List ℕ) → (tried lines ≡ Passed → 0 < length w) → (a : Extension) → test_says a ≡ gives (verdict_of w) unless lines then refuses
+  test_back : (w : List ℕ) → (tried lines ≡ Passed → 0 < length w) → (a : Says (Option Extension)) → a ≡ gives (verdict_of w) unless lines then refuses
       → verdict_by (test_numbers a) ≡ a
-  test_back w some Extension.InverseLyndon e = refl
-  test_back w some (Extension.Failing l p r) e =
-      let result = gave (verdict_of w) (tried lines) e refl in
-      let told = fails-told w l p r (some result.0) result.1 in
-      let positive : 0 < l = rw told.failing (failing-is w (some result.0) told.not).positive in
-      rw (ne_eqb l 0 (λ z. omega (arith, positive, z))) refl
-  test_back w some (Extension.Refused zero) e = absurd (never-0 (verdict_of w) e refl)
-  test_back w some (Extension.Refused (suc number)) e = refl
+  unfolding verdict_of
+  test_back w some a e = ap (λ (x : Says (Option Extension)). verdict_by (test_numbers x)) e ∙ go (tried lines) refl ∙ sym e
+    where
+      verdict : (t : Bool) → is_inverse_lyndon w ≡ t → 0 < length w
+          → (let v = gives (verdict_as t (failing_length w) (prefix_length w) (border_length w)) in verdict_by (test_numbers v) ≡ v)
+      verdict true d s = refl
+      verdict false d s =
+          let positive : 0 < failing_length w = (failing-is w s (decides-false (inverse-lyndon-test w) d)).positive in
+          rw (ne_eqb (failing_length w) 0 (λ z. omega (arith, positive, z))) refl
+
+      go : (k : Checked) → tried lines ≡ k → verdict_by (test_numbers (decided k (gives (verdict_of w)) refuses)) ≡ decided k (gives (verdict_of w)) refuses
+      go Passed z = verdict (is_inverse_lyndon w) refl (some z)
+      go (Refused zero) z = absurd (not-both z (zero-passes lines positive (ap checked_number z)))
+      go (Refused (suc number)) z = refl
 
 -- a batch: the answer of each place
 abbrev Positive : Says ℕ → Type 0
 Positive s = ¬ (s ≡ refuses 0)
 
-reread : List Place → List Place
-reread places = map (λ y. record { answer = count_by (y.refusal, y.count) }) (map reply_of (says_of places))
+reread : List (Says ℕ) → List (Says ℕ)
+reread places = map (λ y. count_by (y.refusal, y.count)) (map reply_of places)
 
-places-back : (places : List Place) → Every Positive (says_of places) → reread places ≡ places
+places-back : (places : List (Says ℕ)) → Every Positive places → reread places ≡ places
 unfolding reread
 places-back [] h = refl
 places-back (p ∷ places) h =
-    ap (λ (a : Result ℕ Refusal). record { answer = a } ∷ reread places) (readable p.answer h.0) ∙ ap (λ (t : List Place). p ∷ t) (places-back places h.1)
+    ap (λ (a : Says ℕ). a ∷ reread places) (readable p h.0) ∙ ap (λ (t : List (Says ℕ)). p ∷ t) (places-back places h.1)
 
 blanks-positive : (answers : List (Says ℕ)) → Every Positive answers → (n : ℕ) → Every Positive (answers ++ replicate n (gives 0))
 blanks-positive [] h zero = tt
@@ -105,8 +109,8 @@ module _ (d : Doorway) (s : Sound d) where
   no_zero : (w : List ℕ) (own : List Line) → every_number (ltb 0) own ≡ true → every_number (ltb 0) (d.door w ++ own) ≡ true
   no_zero w own = every-joined (ltb 0) (d.door w) own (s.positive w)
 
-  batch-back : (bytes es work pairs : List ℕ) (a : Batch)
-      → batch_says a ≡ batch_with 0 (batch_of d.door bytes es work pairs).answers unless batch_lines es (length bytes) then (λ number. batch_with number [])
+  batch-back : (bytes es work pairs : List ℕ) (a : ℕ × List (Says ℕ))
+      → a ≡ batch_with 0 (batch_of d.door bytes es work pairs).answers unless batch_lines es (length bytes) then (λ number. batch_with number [])
       → batch_by (batch_numbers a) ≡ a
   unfolding reread
   batch-back bytes es work pairs a e =
@@ -115,10 +119,10 @@ module _ (d : Doorway) (s : Sound d) where
       (every-added d.door Positive (λ w work pairs. never-0 _ (no_zero w (icfl_lines w (length work) (length pairs)) refl) (length (separated_icfl_ends w)) refl)
       (uncut work pairs) (records_from 0 es bytes))
       in
-      ap (λ (t : List Place). record { refusal = a.refusal; places = t }) (places-back a.places (go (tried (batch_lines es (length bytes))) answers each e))
+      ap (λ (t : List (Says ℕ)). (a.0, t)) (places-back a.1 (go (tried (batch_lines es (length bytes))) answers each e))
     where
-      go : (k : Checked) (answers : List (Says ℕ)) → Every Positive answers → batch_says a ≡ decided k (batch_with 0 answers) (λ number. batch_with number [])
-          → Every Positive (says_of a.places)
+      go : (k : Checked) (answers : List (Says ℕ)) → Every Positive answers → a ≡ decided k (batch_with 0 answers) (λ number. batch_with number [])
+          → Every Positive a.1
       go Passed answers h e = rw (ap (λ (b : ℕ × List (Says ℕ)). b.1) e) (blanks-positive answers h (most_records - length answers))
       go (Refused number) answers h e = rw (ap (λ (b : ℕ × List (Says ℕ)). b.1) e) (blanks-positive [] tt most_records)
 

@@ -17,3 +17,5 @@ pub mod ExportedMeets
 pub mod PairsHold
 pub mod GivenExists
 pub mod OneCall
+
+

@@ -1,27 +1,23 @@
 -- Doorways that let in just the records of 1 to so many bytes (Sound), and calls whose answers meet the promises of the calls behind a door (Meets). The
 -- record's lines are such a doorway (record-door), and the calls behind a door are such calls (behind-meets) and answer (behind-total); the exported
 -- functions: ExportedMeets.
-use Rattle.std.specs.Prelude.{◌≡◌, refl, Bool, true, false, List, [], ◌∷◌, ◌++◌, ℕ, ◌≤◌, length, ltb, ℤ, Result, Ok, Err}
-use Rattle.std.proofs.Common.{ap}
+use Rattle.std.specs.Prelude.{◌≡◌, refl, Bool, true, false, List, [], ◌∷◌, ◌++◌, ℕ, ◌≤◌, length, ltb, ℤ, Option}
+use Rattle.std.proofs.Common.{ap, ◌∙◌}
 use Rattle.words.specs.Words.{is_inverse_lyndon}
 use Rattle.words.specs.Factorizations.{failing_length, prefix_length, border_length}
-use Rattle.checks.specs.Lines.{Door, tried, decided, Accepted, Checked, Passed, Refused}
-use Rattle.checks.specs.Answers.{Says, gives, refuses, count_says}
-use Rattle.checks.specs.declared.refusals.Refusal.{Refusal}
-use Rattle.checks.proofs.LineLaws.{every_number, among}
+use Rattle.words.specs.Pairs.{ends_of}
+use Rattle.checks.specs.Lines.{Line, ◌unless◌then◌, Door, tried, decided, Accepted, Checked, Passed, Refused}
+use Rattle.checks.specs.Answers.{Says, gives, refuses}
+use Rattle.checks.proofs.LineLaws.{every_number, among, reading}
 use Rattle.checks.proofs.RecordLaws.{accepted, record-passes}
-use Rattle.extension.specs.declared.Extension.{Extension}
-use Rattle.extension.specs.Extension.{test_says, verdict_as, verdict_of, extension_lines}
+use Rattle.extension.specs.Extension.{verdict_as, verdict_of, extension_lines}
 use Rattle.icfl.specs.Icfl.{icfl_answer}
 use Rattle.icfl.proofs.IcflCases.{NoFour}
-use Rattle.icfl_breaks.specs.declared.CountedBreaks.{CountedBreaks}
-use Rattle.icfl_breaks.specs.IcflBreaks.{breaks_says}
-use Rattle.batch.specs.declared.Batch.{Batch}
-use Rattle.batch.specs.declared.Place.{Place}
-use Rattle.batch.specs.Batch.{says_of, batch_says}
-use Rattle.compare.specs.declared.suffixes.Comparison.{Comparison}
-use Rattle.compare.specs.Compare.{comparison_says}
-use Rattle.summary.specs.declared.Summary.{Summary}
+use Rattle.numbers.specs.declared.SummaryReply.{SummaryReply}
+use Rattle.summary.specs.Summary.{summary_of, summary_lines, Summarized}
+use Rattle.numbers.specs.Numbers.{summary_numbers, summary_reply, empty_reply}
+use Rattle.exports.specs.Exports.{Gives}
+use Rattle.extension.specs.declared.Extension.{Extension}
 use Rattle.demands.specs.Calls.{Calls, behind}
 use Rattle.demands.specs.Demand1.{Doorway, record_door, Total}
 
@@ -51,19 +47,19 @@ record-door = record {
 
 -- every answer of the one calls may be given by the others
 pub record Within (c calls : Calls) : Type 0 where
-  pub test : (w work : List ℕ) (r : Extension) (work' : List ℕ) → c.Test w work r work' → calls.Test w work r work'
-  pub piece_cut : (w work pairs : List ℕ) (r : Result ℕ Refusal) (work' pairs' : List ℕ) → c.PieceCut w work pairs r work' pairs'
+  pub test : (w work : List ℕ) (r : Says (Option Extension)) (work' : List ℕ) → c.Test w work r work' → calls.Test w work r work'
+  pub piece_cut : (w work pairs : List ℕ) (r : Says ℕ) (work' pairs' : List ℕ) → c.PieceCut w work pairs r work' pairs'
       → calls.PieceCut w work pairs r work' pairs'
-  pub reasoned_cut : (w work pairs breaks : List ℕ) (r : CountedBreaks) (work' pairs' breaks' : List ℕ) → c.ReasonedCut w work pairs breaks r work' pairs' breaks'
+  pub reasoned_cut : (w work pairs breaks : List ℕ) (r : Says (ℕ × ℕ)) (work' pairs' breaks' : List ℕ) → c.ReasonedCut w work pairs breaks r work' pairs' breaks'
       → calls.ReasonedCut w work pairs breaks r work' pairs' breaks'
-  pub card : (bytes es work pairs : List ℕ) (r : Batch) (work' pairs' : List ℕ) → c.CardCut bytes es work pairs r work' pairs'
+  pub card : (bytes es work pairs : List ℕ) (r : ℕ × List (Says ℕ)) (work' pairs' : List ℕ) → c.CardCut bytes es work pairs r work' pairs'
       → calls.CardCut bytes es work pairs r work' pairs'
-  pub strict_cut : (w ends : List ℕ) (r : Result ℕ Refusal) (ends' : List ℕ) → c.StrictCut w ends r ends' → calls.StrictCut w ends r ends'
-  pub start_table : (w out : List ℕ) (r : Result ℕ Refusal) (out' : List ℕ) → c.StartTable w out r out' → calls.StartTable w out r out'
-  pub repetitions : (w out : List ℕ) (r : Result ℕ Refusal) (out' : List ℕ) → c.Repetitions w out r out' → calls.Repetitions w out r out'
-  pub comparison : (w : List ℕ) (first end start other : ℕ) (r : Comparison) → c.Comparing w first end start other r → calls.Comparing w first end start other r
+  pub strict_cut : (w ends : List ℕ) (r : Says ℕ) (ends' : List ℕ) → c.StrictCut w ends r ends' → calls.StrictCut w ends r ends'
+  pub start_table : (w out : List ℕ) (r : Says ℕ) (out' : List ℕ) → c.StartTable w out r out' → calls.StartTable w out r out'
+  pub repetitions : (w out : List ℕ) (r : Says ℕ) (out' : List ℕ) → c.Repetitions w out r out' → calls.Repetitions w out r out'
+  pub comparison : (w : List ℕ) (first end start other : ℕ) (r : Says (ℤ × ℕ)) → c.Comparing w first end start other r → calls.Comparing w first end start other r
   pub reader : (w ps : List ℕ) (k : ℕ) (part : List ℕ) (number : ℕ) → c.Reading w ps k part number → calls.Reading w ps k part number
-  pub summary : (w ps : List ℕ) (r : Summary) → c.Summing w ps r → calls.Summing w ps r
+  pub summary : (w ps : List ℕ) (r : SummaryReply) → c.Summing w ps r → calls.Summing w ps r
 
 abbrev pub Meets : Door → Calls → Type 0
 Meets door c = Within c (behind door)
@@ -84,48 +80,25 @@ behind-meets door = record {
   summary = λ w ps r h. h;
 }
 
--- for everything that can be said there is an answer that says it
-counted : (s : Says ℕ) → (r : Result ℕ Refusal) × (count_says r ≡ s)
-counted (gives n) = (Ok n, refl)
-counted (refuses number) = (Err number, refl)
-
-reasoned : (s : Says (ℕ × ℕ)) → (r : CountedBreaks) × (breaks_says r ≡ s)
-reasoned (gives (factors, breaks)) = (CountedBreaks.Counts factors breaks, refl)
-reasoned (refuses number) = (CountedBreaks.Refused number, refl)
-
-compared : (s : Says (ℤ × ℕ)) → (r : Comparison) × (comparison_says r ≡ s)
-compared (gives (sign, common)) = (Comparison.Order sign common, refl)
-compared (refuses number) = (Comparison.Refused number, refl)
-
-tested : (w : List ℕ) (k : Checked) → (r : Extension) × (test_says r ≡ decided k (gives (verdict_of w)) refuses)
-unfolding verdict_of
-tested w (Refused number) = (Extension.Refused number, refl)
-tested w Passed = go (is_inverse_lyndon w)
-  where
-    go : (t : Bool) → (r : Extension) × (test_says r ≡ gives (verdict_as t (failing_length w) (prefix_length w) (border_length w)))
-    go true = (Extension.InverseLyndon, refl)
-    go false = (Extension.Failing (failing_length w) (prefix_length w) (border_length w), refl)
-
-placed : (ss : List (Says ℕ)) → (places : List Place) × (says_of places ≡ ss)
-placed [] = ([], refl)
-placed (s ∷ ss) =
-    let x = counted s in
-    let later = placed ss in
-    ((record { answer = x.0 }) ∷ later.0, rw (x.1, later.1) refl)
-
-batched : (s : ℕ × List (Says ℕ)) → (r : Batch) × (batch_says r ≡ s)
-batched (number, ss) = let x = placed ss in (record { refusal = number; places = x.0 }, ap (λ (t : List (Says ℕ)). (number, t)) x.1)
-
 pub behind-total : (door : Door) → Total (behind door)
 behind-total door = record {
-  test = λ w work. let x = tested w (tried (door w ++ extension_lines w (length work))) in (x.0, _, record { answer = x.1; buffer = refl });
-  piece_cut = λ w work pairs. let x = counted (icfl_answer (door w) w work pairs) in (x.0, _, _, record { answer = x.1; result = refl; worked = refl });
-  reasoned_cut = λ w work pairs breaks. let x = reasoned _ in (x.0, _, _, _, record { answer = x.1; pairs-are = refl; breaks-are = refl; worked = refl });
-  card = λ bytes es work pairs. let x = batched _ in (x.0, _, _, record { answer = x.1; result = refl; worked = refl });
-  strict_cut = λ w ends. let x = counted _ in (x.0, _, record { answer = x.1; result = refl });
-  start_table = λ w out. let x = counted _ in (x.0, _, record { answer = x.1; result = refl });
-  repetitions = λ w out. let x = counted _ in (x.0, _, record { answer = x.1; result = refl });
-  comparison = λ w first end start other. let x = compared _ in (x.0, record { answer = x.1 });
+  test = λ w work. (_, _, record { answer = refl; buffer = refl });
+  piece_cut = λ w work pairs. (_, _, _, record { answer = refl; result = refl; worked = refl });
+  reasoned_cut = λ w work pairs breaks. (_, _, _, _, record { answer = refl; pairs-are = refl; breaks-are = refl; worked = refl });
+  card = λ bytes es work pairs. (_, _, _, record { answer = refl; result = refl; worked = refl });
+  strict_cut = λ w ends. (_, _, record { answer = refl; result = refl });
+  start_table = λ w out. (_, _, record { answer = refl; result = refl });
+  repetitions = λ w out. (_, _, record { answer = refl; result = refl });
+  comparison = λ w first end start other. (_, record { answer = refl });
   reader = λ w ps k. (_, _, record { number_is = refl; part-is = refl });
-  summary = λ w ps. (_, record { answer = refl });
+  summary = λ w ps. (_, (_, record { answer = refl }, refl));
 }
+
+-- the summary's numbers, by its lines: those of a result, or those of a refusal
+pub summary-numbered : (lines : List Line) (es : List ℕ)
+    → summary_numbers (gives (summary_of es) unless lines then refuses) ≡ summary_reply es unless lines then empty_reply
+summary-numbered lines es = reading summary_numbers (gives (summary_of es)) (λ (i : ℕ). refuses i) (tried lines)
+
+pub summary-told : {door : List Line} {w ps : List ℕ} {r : SummaryReply} → Gives summary_numbers r (Summarized door w ps)
+    → r ≡ summary_reply (ends_of ps) unless door ++ summary_lines w ps then empty_reply
+summary-told {door} {w} {ps} g = g.2 ∙ ap summary_numbers g.1.answer ∙ summary-numbered (door ++ summary_lines w ps) (ends_of ps)

@@ -1,36 +1,33 @@
 -- The library but for one call: what each careless library is. Each says only the call in which it differs.
-use Rattle.std.specs.Prelude.{List, ℕ, Result}
-use Rattle.checks.specs.declared.refusals.Refusal.{Refusal}
+use Rattle.std.specs.Prelude.{List, ℕ, ℤ, Option}
+use Rattle.numbers.specs.declared.SummaryReply.{SummaryReply}
+use Rattle.checks.specs.Answers.{Says}
 use Rattle.extension.specs.declared.Extension.{Extension}
-use Rattle.icfl_breaks.specs.declared.CountedBreaks.{CountedBreaks}
-use Rattle.batch.specs.declared.Batch.{Batch}
-use Rattle.compare.specs.declared.suffixes.Comparison.{Comparison}
-use Rattle.summary.specs.declared.Summary.{Summary}
 use Rattle.demands.specs.Calls.{Calls, library}
 
 abbrev pub Test : Type 1
-Test = (w work : List ℕ) (r : Extension) (work' : List ℕ) → Type 0
+Test = (w work : List ℕ) (r : Says (Option Extension)) (work' : List ℕ) → Type 0
 
 abbrev pub Cut : Type 1
-Cut = (w work pairs : List ℕ) (r : Result ℕ Refusal) (work' pairs' : List ℕ) → Type 0
+Cut = (w work pairs : List ℕ) (r : Says ℕ) (work' pairs' : List ℕ) → Type 0
 
 abbrev pub ReasonedCut : Type 1
-ReasonedCut = (w work pairs breaks : List ℕ) (r : CountedBreaks) (work' pairs' breaks' : List ℕ) → Type 0
+ReasonedCut = (w work pairs breaks : List ℕ) (r : Says (ℕ × ℕ)) (work' pairs' breaks' : List ℕ) → Type 0
 
 abbrev pub Card : Type 1
-Card = (bytes es work pairs : List ℕ) (r : Batch) (work' pairs' : List ℕ) → Type 0
+Card = (bytes es work pairs : List ℕ) (r : ℕ × List (Says ℕ)) (work' pairs' : List ℕ) → Type 0
 
 abbrev pub Listing : Type 1
-Listing = (w out : List ℕ) (r : Result ℕ Refusal) (out' : List ℕ) → Type 0
+Listing = (w out : List ℕ) (r : Says ℕ) (out' : List ℕ) → Type 0
 
 abbrev pub Comparing : Type 1
-Comparing = (w : List ℕ) (first end start other : ℕ) (r : Comparison) → Type 0
+Comparing = (w : List ℕ) (first end start other : ℕ) (r : Says (ℤ × ℕ)) → Type 0
 
 abbrev pub Reader : Type 1
 Reader = (w ps : List ℕ) (k : ℕ) (part : List ℕ) (number : ℕ) → Type 0
 
 abbrev pub Summing : Type 1
-Summing = (w ps : List ℕ) (r : Summary) → Type 0
+Summing = (w ps : List ℕ) (r : SummaryReply) → Type 0
 
 abbrev calls : Test → Cut → ReasonedCut → Card → Listing → Comparing → Reader → Summing → Calls
 calls test cut reasoned_cut card listing comparing reader summing = record {

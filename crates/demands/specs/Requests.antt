@@ -1,20 +1,18 @@
 -- DEFINITIONS. What paper 01 and requests 101, 105 and 107 promise of calls that demands 2 and 3 do not name: the part that is read, the summary, the answers
 -- for the records of a card, and the list of repetitions.
-use Rattle.std.specs.Prelude.{◌≡◌, ℕ, ◌+◌, ◌-◌, ◌*◌, ◌≤◌, ◌<◌, length, take, drop, get_or, Result}
+use Rattle.std.specs.Prelude.{◌≡◌, ℕ, ◌+◌, ◌-◌, ◌*◌, ◌≤◌, ◌<◌, length, take, drop, get_or}
 use mathlib.Core.List.{List, [], ◌∷◌, ◌++◌, sum, Memᴰ}
 use Rattle.std.proofs.Math.Seq.{slice}
 use Rattle.words.specs.Runs.{Triple}
 use Rattle.theory.specs.Statements.{Part}
 use Rattle.theory.specs.RunStatements.{Earlier, IsSeparatedRun, Rising}
 use Rattle.buffers.specs.Buffers.{written}
-use Rattle.checks.specs.Answers.{Says, gives, refuses, count_says}
-use Rattle.checks.specs.declared.refusals.Refusal.{Refusal}
-use Rattle.batch.specs.declared.Batch.{Batch}
-use Rattle.batch.specs.Batch.{records_from, used_entries, says_of, places_of}
+use Rattle.checks.specs.Answers.{Says, gives, refuses}
+use Rattle.batch.specs.Batch.{records_from, used_entries, places_of}
 use Rattle.batch.specs.BatchStatements.{Left}
 use Rattle.inserting.specs.Entries.{entries_of_runs}
 use Rattle.pairs.specs.PairedList.{factor_begin}
-use Rattle.summary.specs.declared.Summary.{Summary}
+use Rattle.numbers.specs.declared.SummaryReply.{SummaryReply}
 use Rattle.summary.specs.Summary.{bit_length_of, bands_of}
 use Rattle.summary.specs.SummaryStatements.{LatestLongest, Digits}
 use Rattle.demands.specs.Calls.{Calls}
@@ -26,7 +24,7 @@ pub record PartRead (w es : List ℕ) (k : ℕ) (part : List ℕ) : Type 0 where
   pub listed : Part es (factor_begin es k) (get_or es k 0)
   pub part-is : part ≡ slice (factor_begin es k) (get_or es k 0) w
 
-pub record SummedUp (es : List ℕ) (r : Summary) : Type 0 where
+pub record SummedUp (es : List ℕ) (r : SummaryReply) : Type 0 where
   -- "the number of pieces"
   pub count : r.count ≡ length es
   -- "the longest piece's length and first place"; request 101: "The summary shall name the latest of the longest pieces."
@@ -44,14 +42,14 @@ pub record SummedUp (es : List ℕ) (r : Summary) : Type 0 where
 -- one is still tried.": the calls one after another, each with the buffers as the one before left them
 pub data Singly (c : Calls) : (records : List (List ℕ)) (work left : List ℕ) (answers : List (Says ℕ)) (work' left' : List ℕ) → Type 0 where
   none : {work left : List ℕ} → Singly c [] work left [] work left
-  next : {w work left work₁ left₁ work' left' : List ℕ} {ws : List (List ℕ)} {a : Result ℕ Refusal} {answers : List (Says ℕ)} → c.PieceCut w work left a work₁ left₁
-      → Singly c ws work₁ (drop (used_entries (count_says a)) left₁) answers work' left'
-      → Singly c (w ∷ ws) work left (count_says a ∷ answers) work' (take (used_entries (count_says a)) left₁ ++ left')
+  next : {w work left work₁ left₁ work' left' : List ℕ} {ws : List (List ℕ)} {a : Says ℕ} {answers : List (Says ℕ)} → c.PieceCut w work left a work₁ left₁
+      → Singly c ws work₁ (drop (used_entries a) left₁) answers work' left'
+      → Singly c (w ∷ ws) work left (a ∷ answers) work' (take (used_entries a) left₁ ++ left')
 
-pub record CardAnswered (c : Calls) (bytes es work pairs : List ℕ) (r : Batch) (work' pairs' : List ℕ) : Type 0 where
+pub record CardAnswered (c : Calls) (bytes es work pairs : List ℕ) (r : ℕ × List (Says ℕ)) (work' pairs' : List ℕ) : Type 0 where
   pub answers : List (Says ℕ)
   -- "The answers come in the card's order, in 64 places; those past the last record hold a result of 0."
-  pub places : says_of r.places ≡ places_of answers
+  pub places : r.1 ≡ places_of answers
   pub singly : Singly c (records_from 0 es bytes) work pairs answers work' pairs'
   -- the pairs without gaps, and the work buffer's zeros up to 3 times the longest record that was cut or refused by 4
   pub left : Left (records_from 0 es bytes) answers work pairs work' pairs'
@@ -60,7 +58,7 @@ pub record CardAnswered (c : Calls) (bytes es work pairs : List ℕ) (r : Batch)
 
 -- ---- request 107, the answer for a record w that is not refused
 
-pub record RepetitionsListed (w out : List ℕ) (r : Result ℕ Refusal) (out' : List ℕ) : Type 0 where
+pub record RepetitionsListed (w out : List ℕ) (r : Says ℕ) (out' : List ℕ) : Type 0 where
   pub listed : List Triple
   -- "List every maximal repetition: first place, end and period. .. Marks belong to none and end their neighbours."
   pub sound : (t : Triple) → Memᴰ t listed → IsSeparatedRun w t
@@ -70,6 +68,6 @@ pub record RepetitionsListed (w out : List ℕ) (r : Result ℕ Refusal) (out' :
   -- "a record always has fewer of them than bytes, as the published "Runs" theorem says"
   pub fewer : length listed < length w
   -- "The call answers with the number of repetitions"
-  pub count : count_says r ≡ gives (length listed)
+  pub count : r ≡ gives (length listed)
   -- "Each fills three 16-bit entries in that order, from entry 0, and what a result buffer holds past the answer stays"
   pub entries : out' ≡ written (entries_of_runs listed) out

@@ -7,7 +7,7 @@ use mathlib.Core.List.{List, [], ◌∷◌, ◌++◌}
 use Prim.Native.Nat.{ℕ, zero, suc, ◌≤◌}
 use native.Mathlib.Omega.{arith}
 use lib.ListN.{length, get_or}
-use Rattle.std.specs.Prelude.{ℤ}
+use Rattle.std.specs.Prelude.{ℤ, Option}
 use Rattle.words.specs.Words.{InverseLyndon, is_inverse_lyndon}
 use Rattle.words.specs.Factorizations.{failing_length, prefix_length, border_length}
 use Rattle.theory.specs.Orders.Decisions.{decides-false}
@@ -26,6 +26,7 @@ use Rattle.checks.specs.Lines.{Line, Door, tried, decided, ◌unless◌then◌, 
 use Rattle.checks.specs.Answers.{Says, gives, refuses}
 use Rattle.checks.proofs.LineLaws.{both-passed, unmet}
 use Rattle.checks.proofs.RecordLaws.{accepted}
+use Rattle.extension.specs.declared.Extension.{Extension}
 use Rattle.extension.specs.Extension.{verdict_as, verdict_of, extension_lines, ExtensionFound}
 use Rattle.icfl.specs.Icfl.{icfl_lines, icfl_answer, IcflDone}
 use Rattle.icfl_breaks.specs.IcflBreaks.{breaks_lines, BreaksDone}
@@ -103,7 +104,7 @@ verdict-small w a false d =
     let inside = failing-is w a.nonempty n in
     (omega (arith, inside.inside, a.short), omega (arith, step.failing.inside, a.short), omega (arith, step.failing.inside, a.short))
 
-pub test-small : {door : List Line} {w work work' : List ℕ} {said : Says (List ℕ)} → Guards door w → ExtensionFound door w work said work' → SmallTest said
+pub test-small : {door : List Line} {w work work' : List ℕ} {said : Says (Option Extension)} → Guards door w → ExtensionFound door w work said work' → SmallTest said
 unfolding verdict_of
 test-small {door} {w} {work} g f =
     let own = extension_lines w (length work) in

@@ -20,7 +20,7 @@ use Rattle.scan.specs.declared.Scan.{Scan}
 use Rattle.scan.specs.State.{start_state, step_state}
 use Rattle.scan.proofs.StateLaws.{stepped}
 use Rattle.extension.specs.declared.Extension.{Extension}
-use Rattle.extension.specs.Extension.{extension_values, verdict_of, TestRoom, Scanning, Ready}
+use Rattle.extension.specs.Extension.{verdict_of, TestRoom, Scanning, Ready}
 
 -- ---- the scan
 
@@ -79,14 +79,14 @@ module _ (w t : List ℕ) (n b : ℕ) (r : Ready w t n b) where
 
 -- ---- the verdict
 
-pub verdict-whole : (w : List ℕ) (n b : ℕ) → Scanned w n b → length w ≤ n → extension_values None ≡ verdict_of w
+pub verdict-whole : (w : List ℕ) (n b : ℕ) → Scanned w n b → length w ≤ n → None ≡ verdict_of w
 unfolding verdict_of
 verdict-whole w n b s l =
     let k : InverseLyndon w = scanned-whole s (omega (arith, s.inside)) in
     rw (true-decides (inverse-lyndon-test w) k)
 
 pub verdict-fails : (w : List ℕ) (n b r : ℕ) → Scanned w n b → n < length w → get_or w b 0 < get_or w n 0 → ShortestBorder w n r
-    → extension_values (Some (record { failing = n + 1; prefix = n - r; border = r })) ≡ verdict_of w
+    → Some (record { failing = n + 1; prefix = n - r; border = r }) ≡ verdict_of w
 unfolding verdict_of
 verdict-fails w n b r s l h y =
     let x : Failing w (suc n) = scanned-failing s l h in

@@ -1,10 +1,12 @@
--- What the values of an answer tell that are the verdict on v: failing (fails-listed), inverse Lyndon (holds-listed); and the answer (fails-told, holds-told).
+-- What a verdict on v tells: failing (fails-is), inverse Lyndon (holds-is); and an answer that says it (fails-told, holds-told).
 use mathlib.Core.Path.{◌≡◌, refl, ap}
 use mathlib.Core.Bool.{Bool, true, false}
 use mathlib.Core.List.{List, [], ◌∷◌}
 use Prim.Native.Nat.{ℕ, ◌+◌, ◌≤◌, ◌<◌}
 use native.Mathlib.Omega.{arith}
 use lib.ListN.{length}
+use Rattle.std.specs.Prelude.{Option, None, Some}
+use Rattle.extension.specs.declared.Extension.{Extension}
 use Rattle.words.specs.Words.{InverseLyndon, is_inverse_lyndon}
 use Rattle.words.specs.Factorizations.{failing_length, prefix_length, border_length}
 use Rattle.theory.specs.Orders.Decisions.{decides-true, decides-false}
@@ -24,40 +26,45 @@ pub record Fails (v : List ℕ) (l p r : ℕ) : Type 0 where
   pub inside : p + r < length v
   pub upto : l ≤ length v
 
-pub fails-listed : (v : List ℕ) (l p r : ℕ) → 0 < length v → (l ∷ p ∷ r ∷ []) ≡ verdict_of v → Fails v l p r
-unfolding verdict_of
-fails-listed v l p r s e = go (is_inverse_lyndon v) refl e
+-- the extension that there is
+given : Option Extension → Extension
+given None = record { failing = 0; prefix = 0; border = 0 }
+given (Some x) = x
+
+pub fails-is : (v : List ℕ) {x : Extension} → 0 < length v → Some x ≡ verdict_of v → Fails v x.failing x.prefix x.border
+unfolding verdict_of given
+fails-is v {x} s e = go (is_inverse_lyndon v) refl e
   where
-    go : (t : Bool) → is_inverse_lyndon v ≡ t → (l ∷ p ∷ r ∷ []) ≡ verdict_as t (failing_length v) (prefix_length v) (border_length v) → Fails v l p r
+    go : (t : Bool) → is_inverse_lyndon v ≡ t → Some x ≡ verdict_as t (failing_length v) (prefix_length v) (border_length v) → Fails v x.failing x.prefix x.border
     go true d z = let b : ◌≡◌ {A = ℕ} 0 1 = cc in absurd (omega arith)
     go false d z =
         let n : ¬ InverseLyndon v = decides-false (inverse-lyndon-test v) d in
         let step = step_is v s n in
-        let x : p ≡ prefix_length v = cc in
-        let y : r ≡ border_length v = cc in
-        let k : l ≡ failing_length v = cc in
+        let k : x.failing ≡ failing_length v = ap (λ (o : Option Extension). (given o).failing) z in
+        let p : x.prefix ≡ prefix_length v = ap (λ (o : Option Extension). (given o).prefix) z in
+        let r : x.border ≡ border_length v = ap (λ (o : Option Extension). (given o).border) z in
         record {
           not = n;
           failing = k;
-          prefix = x;
-          border = y;
-          positive = omega (arith, prefix-positive v step);
-          inside = omega (arith, step.failing.inside);
-          upto = omega (arith, (failing-is v s n).inside);
+          prefix = p;
+          border = r;
+          positive = omega (arith, p, prefix-positive v step);
+          inside = omega (arith, p, r, step.failing.inside);
+          upto = omega (arith, k, (failing-is v s n).inside);
         }
 
-pub holds-listed : (v : List ℕ) → [] ≡ verdict_of v → InverseLyndon v
+pub holds-is : (v : List ℕ) → None ≡ verdict_of v → InverseLyndon v
 unfolding verdict_of
-holds-listed v e = go (is_inverse_lyndon v) refl e
+holds-is v e = go (is_inverse_lyndon v) refl e
   where
-    go : (t : Bool) → is_inverse_lyndon v ≡ t → ◌≡◌ {A = List ℕ} [] (verdict_as t (failing_length v) (prefix_length v) (border_length v)) → InverseLyndon v
+    go : (t : Bool) → is_inverse_lyndon v ≡ t → ◌≡◌ {A = Option Extension} None (verdict_as t (failing_length v) (prefix_length v) (border_length v)) → InverseLyndon v
     go true d z = decides-true (inverse-lyndon-test v) d
     go false d z = let b : ◌≡◌ {A = ℕ} 0 1 = cc in absurd (omega arith)
 
 -- the same of an answer
 
-pub fails-told : (v : List ℕ) (l p r : ℕ) → 0 < length v → gives (l ∷ p ∷ r ∷ []) ≡ gives (verdict_of v) → Fails v l p r
-fails-told v l p r s e = fails-listed v l p r s (ap (values_or []) e)
+pub fails-told : (v : List ℕ) {x : Extension} → 0 < length v → gives (Some x) ≡ gives (verdict_of v) → Fails v x.failing x.prefix x.border
+fails-told v {x} s e = fails-is v s (ap (values_or None) e)
 
-pub holds-told : (v : List ℕ) → gives [] ≡ gives (verdict_of v) → InverseLyndon v
-holds-told v e = holds-listed v (ap (values_or []) e)
+pub holds-told : (v : List ℕ) → gives None ≡ gives (verdict_of v) → InverseLyndon v
+holds-told v e = holds-is v (ap (values_or None) e)

@@ -12,20 +12,16 @@ use Rattle.scan.specs.State.{Rests}
 use Rattle.scan.specs.declared.Scan.{Scan}
 use Rattle.extension.specs.declared.Extension.{Extension}
 
--- 'The test answers "falling", or "failing" with L, |p| and |r|.': what each case says, with no values for "falling"
-abbrev pub extension_values : Option Extension → List ℕ
-extension_values None = []
-extension_values (Some x) = x.failing ∷ x.prefix ∷ x.border ∷ []
+-- 'The test answers "falling", or "failing" with L, |p| and |r|.': what each case says, nothing for "falling"
+abbrev pub test_says : Result (Option Extension) Refusal → Says (Option Extension)
+test_says r = says_by (λ x. x) r
 
-abbrev pub test_says : Result (Option Extension) Refusal → Says (List ℕ)
-test_says r = says_by extension_values r
+abbrev pub verdict_as : Bool → ℕ → ℕ → ℕ → Option Extension
+verdict_as true failing prefix border = None
+verdict_as false failing prefix border = Some (record { failing = failing; prefix = prefix; border = border })
 
-abbrev pub verdict_as : Bool → ℕ → ℕ → ℕ → List ℕ
-verdict_as true failing prefix border = []
-verdict_as false failing prefix border = failing ∷ prefix ∷ border ∷ []
-
--- the values of the result
-unfoldable pub verdict_of : List ℕ → List ℕ
+-- the result
+unfoldable pub verdict_of : List ℕ → Option Extension
 verdict_of w = verdict_as (is_inverse_lyndon w) (failing_length w) (prefix_length w) (border_length w)
 
 -- the test's own lines, tried past those at its door: 3, and "9, a test of a record that holds a mark, after 3"
@@ -34,7 +30,7 @@ extension_lines w entries = work_line entries (length w) ∷ mark_line w ∷ []
 
 -- the call's promise, by the lines at its door: its answer; and "after an accepted .. test .. the entries counted in line 3 are zero and later ones
 -- unchanged", untouched by a refusal
-pub record ExtensionFound (door : List Line) (w work : List ℕ) (said : Says (List ℕ)) (work' : List ℕ) : Type 0 where
+pub record ExtensionFound (door : List Line) (w work : List ℕ) (said : Says (Option Extension)) (work' : List ℕ) : Type 0 where
   pub answer : said ≡ gives (verdict_of w) unless door ++ extension_lines w (length work) then refuses
   pub buffer : work' ≡ cleared (length w) work unless door ++ extension_lines w (length work) then (λ number. work)
 
@@ -60,5 +56,5 @@ pub record Ready (w table : List ℕ) (n b : ℕ) : Type 0 where
   pub borders : Table w table (n - 1)
 
 pub record Verdict (w work : List ℕ) (r : Option Extension) (work' : List ℕ) : Type 0 where
-  pub answer : extension_values r ≡ verdict_of w
+  pub answer : r ≡ verdict_of w
   pub kept : drop (length w) work' ≡ drop (length w) work

@@ -1,10 +1,11 @@
 -- DEFINITIONS. The answers of the library's calls as numbers: the refusal's number, 0 for a result, and beside it the result's numbers, 0 with a refusal.
-use Rattle.std.specs.Prelude.{◌≡◌, List, [], map, ℕ, ◌≤◌, ◌<◌, length, get_or, ℤ, pos}
+use Rattle.std.specs.Prelude.{◌≡◌, Option, None, Some, List, [], map, ℕ, ◌≤◌, ◌<◌, length, get_or, ℤ, pos}
 use Rattle.conditions.specs.Conditions.{most_records}
-use Rattle.checks.specs.Answers.{checked_number, Says, gives, checked, values_or}
+use Rattle.checks.specs.Answers.{checked_number, Says, gives, refuses, checked, values_or}
+use Rattle.extension.specs.declared.Extension.{Extension}
 use Rattle.batch.specs.Batch.{places_of}
 use Rattle.summary.specs.declared.Summary.{Summary}
-use Rattle.summary.specs.Summary.{no_summary}
+use Rattle.summary.specs.Summary.{summary_of, no_summary}
 use Rattle.numbers.specs.declared.Reply.{Reply}
 use Rattle.numbers.specs.declared.Replies.{Replies}
 use Rattle.numbers.specs.declared.SummaryReply.{SummaryReply}
@@ -17,9 +18,13 @@ numbers_or none said = (checked_number (checked said), values_or none said)
 abbrev pub count_numbers : Says ℕ → ℕ × ℕ
 count_numbers said = numbers_or 0 said
 
--- the refusal, L, |p| and |r|
-abbrev pub test_numbers : Says (List ℕ) → ℕ × ℕ × ℕ × ℕ
-test_numbers said = let (number, values) = numbers_or [] said in (number, get_or values 0 0, get_or values 1 0, get_or values 2 0)
+-- the refusal, L, |p| and |r|, all 0 for an inverse Lyndon word
+abbrev pub extension_numbers : Option Extension → ℕ × ℕ × ℕ
+extension_numbers None = (0, 0, 0)
+extension_numbers (Some x) = (x.failing, x.prefix, x.border)
+
+abbrev pub test_numbers : Says (Option Extension) → ℕ × ℕ × ℕ × ℕ
+test_numbers said = let (number, verdict) = numbers_or None said in let (failing, prefix, border) = extension_numbers verdict in (number, failing, prefix, border)
 
 -- the refusal, the number of factors, that of breaks
 abbrev pub breaks_numbers : Says (ℕ × ℕ) → ℕ × ℕ × ℕ
@@ -43,6 +48,13 @@ summary_numbers said =
     let (number, s) = numbers_or no_summary said in
     record { refusal = number; count = s.count; longest = s.longest; from = s.from; bands = s.bands }
 
+-- those of a result, for a list of ends, and of a refusal: beside it all others are 0
+abbrev pub summary_reply : List ℕ → SummaryReply
+summary_reply es = summary_numbers (gives (summary_of es))
+
+abbrev pub empty_reply : ℕ → SummaryReply
+empty_reply number = summary_numbers (refuses number)
+
 -- ---- what the functions ask: that the numbers fit
 
 -- into sixteen bits
@@ -52,8 +64,8 @@ Small n = n < 65536
 abbrev pub SmallCount : Says ℕ → Type 0
 SmallCount said = Small (values_or 0 said)
 
-abbrev pub SmallTest : Says (List ℕ) → Type 0
-SmallTest said = let values = values_or [] said in Small (get_or values 0 0) × Small (get_or values 1 0) × Small (get_or values 2 0)
+abbrev pub SmallTest : Says (Option Extension) → Type 0
+SmallTest said = let (failing, prefix, border) = extension_numbers (values_or None said) in Small failing × Small prefix × Small border
 
 abbrev pub SmallBreaks : Says (ℕ × ℕ) → Type 0
 SmallBreaks said = let (factors, breaks) = values_or (0, 0) said in Small factors × Small breaks

@@ -12,7 +12,7 @@ use Rattle.checks.specs.Answers.{gives, refuses}
 use Rattle.checks.proofs.LineLaws.{passed-up, refused, refused-first, passed_first, both-pass}
 use Rattle.checks.proofs.RecordLaws.{enough}
 use Rattle.extension.specs.declared.Extension.{Extension}
-use Rattle.extension.specs.Extension.{extension_values, extension_lines, ExtensionFound, TestRoom, Verdict}
+use Rattle.extension.specs.Extension.{extension_lines, ExtensionFound, TestRoom, Verdict}
 use Rattle.extension.proofs.test.Goals as goal
 use Rattle.extension.proofs.test.Goals.{In_ok-check_work}
 
@@ -22,9 +22,9 @@ room-at c =
     record { nonempty = accepted.nonempty; short = accepted.short; entries = enough 3 _ _ (sym c.in_ok-check_work.ensures) }
 
 verdict-found : {w work work₁ work₂ : List ℕ} {r : Option Extension} → tried (extension_lines w (length work)) ≡ Passed → Verdict w work r work₁
-    → work₂ ≡ cleared (length w) work₁ → ExtensionFound [] w work (gives (extension_values r)) work₂
+    → work₂ ≡ cleared (length w) work₁ → ExtensionFound [] w work (gives r) work₂
 verdict-found {w} {work} {work₁} none v e = record {
-  answer = rw none (ap (λ (x : List ℕ). gives x) v.answer);
+  answer = rw none (ap (λ (x : Option Extension). gives x) v.answer);
   buffer = rw none (e ∙ cleared-kept (length w) work₁ work v.kept);
 }
 
