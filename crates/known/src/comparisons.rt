@@ -6,7 +6,7 @@ use std::cmp::Ordering;
 use std::ops::Range;
 use std::{fmt, io};
 
-// The sign, and how many letters are equal.
+// The sign, and how many letters are equal: a type of its own, to be printed, as Order is another crate's.
 #[derive(Clone, Copy)]
 struct Compared(Order);
 

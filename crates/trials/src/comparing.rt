@@ -4,7 +4,7 @@ use letters::Order;
 use naive::Compared;
 use samples::{Run, about};
 
-// An order in the second implementation's form.
+// An order in the second implementation's form; no From, as neither type is this crate's.
 fn compared(found: Order) -> Compared {
     Compared {
         order: found.sign,
