@@ -15,7 +15,7 @@ pub fn limited(number: usize) -> u16 {
     u16::try_from(number).unwrap_or(u16::MAX)
 }
 
-/// A list of numbers.
+/// A list of numbers. There is no heap here, so it is a buffer with a count and no Vec.
 #[derive(Drop)]
 pub struct List {
     entries: [u16; BREAK_ENTRIES],
@@ -63,12 +63,9 @@ impl List {
         front(&self.entries, self.count)
     }
 
-    /// The same entries, the last one first.
-    pub fn reversed(&self) -> List {
-        let mut list = List::new();
-        for entry in self.as_slice().iter().rev() {
-            list.push(usize::from(*entry));
-        }
-        list
+    /// Turns the entries about, the last one first.
+    pub fn reverse(&mut self) {
+        let count = self.count.min(BREAK_ENTRIES);
+        self.entries[..count].reverse();
     }
 }

@@ -1,33 +1,27 @@
 //! What request 105 says of cards: the pieces of each record within it, or its refusal, and how many places hold a
 //! result of 0.
-use super::printing::{counted, pieces_of};
+use super::printing::{Refused, pieces_of};
 use access::tail;
-use batch::Batch;
-use checks::{Counted, MOST};
+use batch::{Answers, MOST_RECORDS};
+use checks::MOST;
 use std::io;
 
-// How many pieces an answer has.
-fn count_of(answer: Counted) -> usize {
-    counted(answer).unwrap_or(0)
-}
-
-// All places, nothing for a result of 0, the pairs of each behind those before. Answers how many hold a result of 0.
-fn print_places(out: &impl Print, found: &Batch, pairs: &[u16]) -> io::Result<usize> {
+// All answers, nothing for a result of 0, the pairs of each behind those before. Gives how many are a result of 0.
+fn print_answers(out: &impl Print, answers: &Answers, pairs: &[u16]) -> io::Result<usize> {
     let mut rest = pairs;
     let mut zeros: usize = 0;
-    for place in found.places.iter() {
-        let answer = place.answer;
-        if counted(answer) == Ok(0) {
+    for answer in answers {
+        if *answer == Ok(0) {
             zeros = zeros.saturating_add(1);
         } else {
-            print!(out; "({})", pieces_of(answer, rest))?;
-            rest = tail(rest, count_of(answer).saturating_mul(2));
+            print!(out; "({})", pieces_of(*answer, rest))?;
+            rest = tail(rest, answer.unwrap_or(0).saturating_mul(2));
         }
     }
     Ok(zeros)
 }
 
-// A card, with so many entries lent for the pieces as `pairs` has.
+// A card, with so many entries lent for the pieces as `pairs` has; a refused one counts as 0 in every place.
 fn print_batch(
     out: &impl Print,
     name: &str,
@@ -36,12 +30,14 @@ fn print_batch(
     pairs: &mut [u16],
 ) -> io::Result<()> {
     let mut work = [0u16; 3 * MOST];
-    let found = batch::icfl_batch(bytes, record_ends, &mut work, pairs);
     print!(out; "{name}: ")?;
-    if found.refusal != 0 {
-        print!(out; "refusal {}", found.refusal)?;
-    }
-    let zeros = print_places(out, &found, pairs)?;
+    let zeros = match batch::icfl_batch(bytes, record_ends, &mut work, pairs) {
+        Ok(answers) => print_answers(out, &answers, pairs)?,
+        Err(refusal) => {
+            print!(out; "{}", Refused(refusal))?;
+            MOST_RECORDS
+        }
+    };
     println!(out; " zeros={zeros}")
 }
 

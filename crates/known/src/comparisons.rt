@@ -1,26 +1,23 @@
 //! What paper 01 and the requests 104 and 106 say of two starts in a range: the sign, and how many leading letters are
 //! equal.
 use super::printing::Answer;
-use compare::Comparison;
+use compare::Order;
 use std::cmp::Ordering;
 use std::ops::Range;
 use std::{fmt, io};
 
-// The sign, and how many letters are equal.
+// The sign, and how many letters are equal: a type of its own, to be printed, as Order is another crate's.
 #[derive(Clone, Copy)]
-struct Compared {
-    order: Ordering,
-    common: usize,
-}
+struct Compared(Order);
 
 impl fmt::Display for Compared {
     fn fmt<W: fmt::Write>(&self, f: &mut fmt::Formatter<W>) -> fmt::Result {
-        let sign = match self.order {
+        let sign = match self.0.sign {
             Ordering::Less => "-1",
             Ordering::Equal => "0",
             Ordering::Greater => "+1",
         };
-        write!(f, "sign={sign} common={}", self.common)
+        write!(f, "sign={sign} common={}", self.0.common)
     }
 }
 
@@ -34,16 +31,10 @@ fn print_comparison(
     other: usize,
 ) -> io::Result<()> {
     let Range { start: first, end } = range;
-    let answer = match compare::compare_suffixes(word, first, end, start, other) {
-        Comparison::Order { sign, common } => Ok(Compared {
-            order: sign.cmp(&0),
-            common,
-        }),
-        Comparison::Refused(number) => Err(number),
-    };
+    let answer = compare::compare_suffixes(word, first, end, start, other);
     println!(out;
         "{name} over {first} to {end}, {start} and {other}: {}",
-        Answer(answer)
+        Answer(answer.map(Compared))
     )
 }
 

@@ -1,18 +1,16 @@
 //! What paper 01 and request 108 say of lists for record H: the parts that the reader gives by each number from 0 to 3,
 //! and the summary's count, longest and from.
-use super::printing::Numbers;
+use super::printing::{Numbers, Refused};
 use std::io;
 
 // The part of a number.
 fn print_part(out: &impl Print, word: &[u8], pairs: &[u16], number: usize) -> io::Result<()> {
-    let mut refusal: u8 = 0;
-    let part = reading::factor_at(word, pairs, number, &mut refusal);
-    if refusal != 0 {
-        return print!(out; "(refusal {refusal})");
+    print!(out; "(")?;
+    match reading::factor_at(word, pairs, number) {
+        Ok(part) => out.write_all(part)?,
+        Err(refusal) => print!(out; "{}", Refused(refusal))?,
     }
-    out.write_all(b"(")?;
-    out.write_all(part)?;
-    out.write_all(b")")
+    print!(out; ")")
 }
 
 // All that is said of a list.
@@ -22,14 +20,13 @@ fn print_parts(out: &impl Print, name: &str, pairs: &[u16]) -> io::Result<()> {
     for number in 0..4 {
         print_part(out, word, pairs, number)?;
     }
-    let found = summary::summarize(word, pairs);
-    if found.refusal != 0 {
-        return println!(out; " summary=refusal {}", found.refusal);
+    match summary::summarize(word, pairs) {
+        Ok(found) => {
+            let numbers = [found.count, found.longest, found.from];
+            println!(out; " summary={}", Numbers(&numbers))
+        }
+        Err(refusal) => println!(out; " summary={}", Refused(refusal)),
     }
-    println!(out;
-        " summary={}",
-        Numbers(&[found.count, found.longest, found.from])
-    )
 }
 
 /// The piece cut's pairs, counts that are the parts' lengths, and other parts; then lists that are refused: a count

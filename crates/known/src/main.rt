@@ -14,7 +14,6 @@ mod repetitions; // the maximal repetitions
 use batches::print_batches;
 use checks::MOST;
 use comparisons::print_comparisons;
-use extension::Extension;
 use lists::print_lists;
 use marks::print_marks;
 use printing::{numbers_of, pieces_of};
@@ -57,11 +56,10 @@ fn print_table(rt: &(impl Print + Env)) -> io::Result<()> {
 fn print_test(out: &impl Print, name: &str, word: &[u8]) -> io::Result<()> {
     let mut work = [0u16; MOST];
     match extension::find_extension(word, &mut work) {
-        Extension::Failing {
-            failing,
-            prefix,
-            border,
-        } => println!(out; "{name} test={failing},{prefix},{border}"),
+        Ok(Some(found)) => println!(out;
+            "{name} test={},{},{}",
+            found.failing, found.prefix, found.border
+        ),
         _ => println!(out; "{name} test="),
     }
 }

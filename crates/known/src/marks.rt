@@ -1,8 +1,7 @@
 //! What request 103 says of records with marks, bytes 255: both cuts and the start table, the breaks, and the test,
 //! which refuses them.
-use super::printing::{Numbers, numbers_of, pieces_of};
+use super::printing::{Numbers, Refused, numbers_of, pieces_of};
 use super::reasons::print_reasons;
-use extension::Extension;
 use std::io;
 
 // The pieces, the strict ends and the start table of a record of up to six letters.
@@ -20,9 +19,8 @@ fn print_cuts(out: &impl Print, name: &str, word: &[u8]) -> io::Result<()> {
 // The refusal of a test, and what it leaves in the work buffer.
 fn print_test(out: &impl Print, name: &str, word: &[u8], work: &mut [u16]) -> io::Result<()> {
     print!(out; "{name}: ")?;
-    match extension::find_extension(word, work) {
-        Extension::Refused(number) => print!(out; "refusal {number}")?,
-        _ => {}
+    if let Err(refusal) = extension::find_extension(word, work) {
+        print!(out; "{}", Refused(refusal))?;
     }
     println!(out; " work={}", Numbers(work))
 }

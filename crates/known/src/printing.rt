@@ -1,6 +1,6 @@
 //! Lists of numbers and of pairs, groups of entries, and answers, as the lines have them.
 use access::front;
-use checks::Counted;
+use checks::Refusal;
 use std::fmt;
 
 /// Numbers with commas between them.
@@ -49,33 +49,35 @@ impl fmt::Display for Groups<'_> {
     }
 }
 
-/// What a call answers: what is shown of its result, or the refusal's number.
+/// A refusal, by its number.
+#[derive(Clone, Copy)]
+pub struct Refused(pub Refusal);
+
+impl fmt::Display for Refused {
+    fn fmt<W: fmt::Write>(&self, f: &mut fmt::Formatter<W>) -> fmt::Result {
+        write!(f, "refusal {}", u8::from(self.0))
+    }
+}
+
+/// What a call answers: what is shown of its result, or the refusal.
 #[derive(Drop)]
-pub struct Answer<D>(pub Result<D, u8>);
+pub struct Answer<D>(pub Result<D, Refusal>);
 
 impl<D: fmt::Display> fmt::Display for Answer<D> {
     fn fmt<W: fmt::Write>(&self, f: &mut fmt::Formatter<W>) -> fmt::Result {
         match &self.0 {
             Ok(result) => write!(f, "{result}"),
-            Err(number) => write!(f, "refusal {number}"),
+            Err(refusal) => write!(f, "{}", Refused(*refusal)),
         }
     }
 }
 
-/// A count, or the refusal's number.
-pub fn counted(answer: Counted) -> Result<usize, u8> {
-    match answer {
-        Counted::Count(count) => Ok(count),
-        Counted::Refused(number) => Err(number),
-    }
-}
-
 /// A call's list: so many entries as it answers.
-pub fn numbers_of(answer: Counted, list: &[u16]) -> Answer<Numbers<'_>> {
-    Answer(counted(answer).map(|count| Numbers(front(list, count))))
+pub fn numbers_of(answer: Result<usize, Refusal>, list: &[u16]) -> Answer<Numbers<'_>> {
+    Answer(answer.map(|count| Numbers(front(list, count))))
 }
 
 /// The piece cut's list: so many pairs as it answers.
-pub fn pieces_of(answer: Counted, pairs: &[u16]) -> Answer<Pairs<'_>> {
-    Answer(counted(answer).map(|count| Pairs(front(pairs, count.saturating_mul(2)))))
+pub fn pieces_of(answer: Result<usize, Refusal>, pairs: &[u16]) -> Answer<Pairs<'_>> {
+    Answer(answer.map(|count| Pairs(front(pairs, count.saturating_mul(2)))))
 }

@@ -1,8 +1,8 @@
 //! What request 102 says of single records: the piece cut with its breaks.
-use super::printing::{Groups, Pairs};
+use super::printing::{Groups, Pairs, Refused};
 use access::front;
 use checks::MOST;
-use icfl_breaks::CountedBreaks;
+use icfl_breaks::Counts;
 use std::io;
 
 /// The pieces and the breaks, with so many entries lent for them as `pairs` and `list` have.
@@ -15,13 +15,13 @@ pub fn print_reasons(
 ) -> io::Result<()> {
     let mut work = [0u16; 3 * MOST];
     match icfl_breaks::icfl_with_breaks(word, &mut work, pairs, list) {
-        CountedBreaks::Counts { factors, breaks } => {
+        Ok(Counts { factors, breaks }) => {
             let pieces = Pairs(front(pairs, factors.saturating_mul(2)));
             let entries = front(list, breaks.saturating_mul(5));
             let breaks = Groups { size: 5, entries };
             println!(out; "{name}: pieces={pieces} breaks={breaks}")
         }
-        CountedBreaks::Refused(number) => println!(out; "{name}: refusal {number}"),
+        Err(refusal) => println!(out; "{name}: {}", Refused(refusal)),
     }
 }
 

@@ -1,54 +1,43 @@
 //! The refusals of every call that takes one record.
-use super::printing::{Numbers, counted};
-use checks::MOST;
-use compare::Comparison;
-use extension::Extension;
-use icfl_breaks::CountedBreaks;
+use super::printing::Numbers;
+use checks::{MOST, Refusal};
 use std::io;
 
 // The refusal's number as the lines have it, 0 for a result.
-fn number(answer: Result<usize, u8>) -> u16 {
+fn number<T: Drop>(answer: Result<T, Refusal>) -> u16 {
     match answer {
         Ok(_) => 0,
-        Err(number) => u16::from(number),
+        Err(refusal) => u16::from(u8::from(refusal)),
     }
 }
 
-// That of the piece cut with breaks, lent no entry for these.
-fn number_beside(word: &[u8], work: &mut [u16], pairs: &mut [u16]) -> u16 {
-    match icfl_breaks::icfl_with_breaks(word, work, pairs, &mut []) {
-        CountedBreaks::Counts { .. } => 0,
-        CountedBreaks::Refused(number) => u16::from(number),
-    }
-}
-
-// Those of the calls that are lent buffers: the test, the piece cut alone and with its breaks, the strict cut, the
-// start table, the repetitions.
+// Those of the calls that are lent buffers: the test, the piece cut alone and with its breaks (lent no entry for
+// these), the strict cut, the start table, the repetitions.
 fn lent_numbers(word: &[u8]) -> [u16; 6] {
     let mut work = [0u16; 3 * MOST];
     let mut list = [0u16; MOST];
-    let tested = match extension::find_extension(word, &mut work) {
-        Extension::Refused(number) => u16::from(number),
-        _ => 0,
-    };
-    let pieces = number(counted(icfl::icfl(word, &mut work, &mut list)));
-    let broken = number_beside(word, &mut work, &mut list);
-    let strict = number(counted(cfl::cfl_in(word, &mut list)));
-    let starts = number(counted(table::lyndon_table(word, &mut list)));
-    let repeated = number(counted(runs::runs(word, &mut list)));
-    [tested, pieces, broken, strict, starts, repeated]
+    [
+        number(extension::find_extension(word, &mut work)),
+        number(icfl::icfl(word, &mut work, &mut list)),
+        number(icfl_breaks::icfl_with_breaks(word, &mut work, &mut list, &mut [])),
+        number(cfl::cfl_in(word, &mut list)),
+        number(table::lyndon_table(word, &mut list)),
+        number(runs::runs(word, &mut list)),
+    ]
 }
 
-/// The refusal's number of every call, 0 for a result: of those that are lent buffers, then of comparison, reader and
-/// summary.
+// Those of comparison, reader and summary.
+fn other_numbers(word: &[u8], pairs: &[u16]) -> [u16; 3] {
+    [
+        number(compare::compare_suffixes(word, 0, word.len(), 0, 0)),
+        number(reading::factor_at(word, pairs, 0)),
+        number(summary::summarize(word, pairs)),
+    ]
+}
+
+/// The refusal's number of every call, 0 for a result.
 pub fn print_refusals(out: &impl Print, name: &str, word: &[u8], pairs: &[u16]) -> io::Result<()> {
-    let compared = match compare::compare_suffixes(word, 0, word.len(), 0, 0) {
-        Comparison::Refused(number) => number,
-        Comparison::Order { .. } => 0,
-    };
-    let mut told: u8 = 0;
-    reading::factor_at(word, pairs, 0, &mut told);
-    let summed = summary::summarize(word, pairs).refusal;
     let lent = lent_numbers(word);
-    println!(out; "{name}: {},{compared},{told},{summed}", Numbers(&lent))
+    let others = other_numbers(word, pairs);
+    println!(out; "{name}: {},{}", Numbers(&lent), Numbers(&others))
 }

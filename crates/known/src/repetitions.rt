@@ -1,17 +1,16 @@
 //! What request 107 says of single records: their maximal repetitions, each as first place, end and period.
-use super::printing::Groups;
+use super::printing::{Groups, Refused};
 use access::front;
-use checks::Counted;
 use std::io;
 
 // The repetitions, with so many entries lent for them as `list` has.
 fn print_runs(out: &impl Print, name: &str, word: &[u8], list: &mut [u16]) -> io::Result<()> {
     match runs::runs(word, list) {
-        Counted::Count(count) => {
+        Ok(count) => {
             let entries = front(list, count.saturating_mul(3));
             println!(out; "{name}: runs={}", Groups { size: 3, entries })
         }
-        Counted::Refused(number) => println!(out; "{name}: refusal {number}"),
+        Err(refusal) => println!(out; "{name}: {}", Refused(refusal)),
     }
 }
 

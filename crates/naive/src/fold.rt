@@ -20,16 +20,17 @@ fn factor_start(ends: &[u16], k: usize) -> usize {
 pub fn pieces_by_fold(word: &[u8]) -> List {
     let strict = strict_by_suffixes(word);
     let ends = strict.as_slice();
-    let mut last_first = List::new();
+    let mut pieces = List::new();
     let mut end = word.len();
-    last_first.push(end);
+    pieces.push(end);
     for k in (1..ends.len()).rev() {
         let factor = part(word, factor_start(ends, k - 1), factor_start(ends, k));
         let piece = part(word, factor_start(ends, k), end);
         if loses(factor, piece) {
             end = factor_start(ends, k);
-            last_first.push(end);
+            pieces.push(end);
         }
     }
-    last_first.reversed()
+    pieces.reverse();
+    pieces
 }

@@ -1,5 +1,6 @@
 //! A second implementation of the calls, by the definitions and not by the proved algorithms, for the program `cases`
 //! to compare with. Every function is safe and ends for all arguments; what it answers is not proved.
+//! It uses none of the proved crates, so its types are its own, and a refusal is the number of its line.
 #![tactic(auto)]
 
 mod order; // the inverse order, letter by letter, and the comparison in two ways

@@ -34,10 +34,11 @@ fn first_length(word: &[u8], lengths: &[u16]) -> usize {
 
 /// The start table.
 pub fn starts_by_suffixes(word: &[u8]) -> List {
-    let mut shortest_first = List::new();
+    let mut lengths = List::new();
     for i in (0..word.len()).rev() {
-        let length = first_length(tail(word, i), shortest_first.as_slice());
-        shortest_first.push(length);
+        let length = first_length(tail(word, i), lengths.as_slice());
+        lengths.push(length);
     }
-    shortest_first.reversed()
+    lengths.reverse();
+    lengths
 }

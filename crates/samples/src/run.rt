@@ -29,10 +29,7 @@ pub struct Counts {
 impl Counts {
     fn new() -> Counts {
         Counts {
-            counts: [Count {
-                agreed: 0,
-                disagreed: 0,
-            }; CALLS],
+            counts: [Count::default(); CALLS],
         }
     }
 

@@ -79,6 +79,7 @@ fn next_letter(before: &[u8], n: usize, shape: Shape, run: &mut Run) -> usize {
 /// Writes a record of a shape.
 pub fn write(word: &mut [u8], shape: Shape, run: &mut Run) {
     let n = word.len();
+    // By index: a letter may be one of those before it, which iter_mut does not lend.
     for i in 0..n {
         let next = next_letter(&word[..i], n, shape, run);
         word[i] = letter(next);

@@ -1,8 +1,16 @@
 //! The comparison, and that of two words alone with how far they agree.
 use access::{TwoStarts, part, part_end, part_start};
-use compare::Comparison;
+use letters::Order;
 use naive::Compared;
 use samples::{Run, about};
+
+// An order in the second implementation's form; no From, as neither type is this crate's.
+fn compared(found: Order) -> Compared {
+    Compared {
+        order: found.sign,
+        common: found.common,
+    }
+}
 
 // What the comparison answers, or the number of its refusal.
 fn answer(word: &[u8], asked: TwoStarts) -> Result<Compared, u8> {
@@ -12,13 +20,9 @@ fn answer(word: &[u8], asked: TwoStarts) -> Result<Compared, u8> {
         start,
         other,
     } = asked;
-    match compare::compare_suffixes(word, first, end, start, other) {
-        Comparison::Order { sign, common } => Ok(Compared {
-            order: sign.cmp(&0),
-            common,
-        }),
-        Comparison::Refused(number) => Err(number),
-    }
+    compare::compare_suffixes(word, first, end, start, other)
+        .map(compared)
+        .map_err(u8::from)
 }
 
 // Whether an answer is that of the second implementation, letter by letter and by the longest common prefix.
@@ -118,11 +122,8 @@ fn random_part<'a>(word: &'a [u8], from: usize, run: &mut Run) -> &'a [u8] {
 
 // Whether two words compare, and agree so far, as by the second implementation.
 fn words_are_right(x: &[u8], y: &[u8]) -> bool {
-    let found = common::compare_words(x, y);
     let want = naive::compare_words(x, y);
-    found.sign.cmp(&0) == want.order
-        && found.common == want.common
-        && common::common_length(x, y) == want.common
+    compared(common::compare_words(x, y)) == want && common::common_length(x, y) == want.common
 }
 
 /// How many cases there are of two words: 4 of parts at random, and 25 by 25 of short ones.

@@ -2,9 +2,8 @@
 //! strict cut, the start table.
 use super::case::Case;
 use access::{BREAK_ENTRIES, Call, ENTRIES, PAIR_ENTRIES, limited};
-use checks::Counted;
-use extension::Extension;
-use icfl_breaks::CountedBreaks;
+use checks::Refusal;
+use icfl_breaks::Counts;
 use naive::{Defined, Room};
 use samples::{about, fill, is_cleared, is_written};
 
@@ -17,29 +16,20 @@ const SALT: usize = 40000;
 const SHORT: usize = 300;
 
 // The test, its answer written as a list like that of the second implementation.
-fn test(word: &[u8], work: &mut [u16], list: &mut [u16]) -> Counted {
-    match extension::find_extension(word, work) {
-        Extension::Refused(number) => Counted::Refused(number),
-        Extension::InverseLyndon => Counted::Count(0),
-        Extension::Failing {
-            failing,
-            prefix,
-            border,
-        } => {
-            for (entry, number) in list.iter_mut().zip([failing, prefix, border]) {
-                *entry = limited(number);
-            }
-            Counted::Count(3)
-        }
+fn test(word: &[u8], work: &mut [u16], list: &mut [u16]) -> Result<usize, Refusal> {
+    let Some(found) = extension::find_extension(word, work)? else {
+        return Ok(0);
+    };
+    let numbers = [found.failing, found.prefix, found.border];
+    for (entry, number) in list.iter_mut().zip(numbers) {
+        *entry = limited(number);
     }
+    Ok(3)
 }
 
 // The answer of a call that gives no breaks.
-fn unbroken(answer: Counted) -> CountedBreaks {
-    match answer {
-        Counted::Refused(number) => CountedBreaks::Refused(number),
-        Counted::Count(factors) => CountedBreaks::Counts { factors, breaks: 0 },
-    }
+fn unbroken(answer: Result<usize, Refusal>) -> Result<Counts, Refusal> {
+    answer.map(|factors| Counts { factors, breaks: 0 })
 }
 
 // Buffers to be lent.
@@ -64,7 +54,7 @@ impl Buffers {
     }
 
     // The call, lent so many entries of each; nothing where there are not so many.
-    fn lend(&mut self, call: Call, word: &[u8], lent: Room) -> Option<CountedBreaks> {
+    fn lend(&mut self, call: Call, word: &[u8], lent: Room) -> Option<Result<Counts, Refusal>> {
         let work = self.work.get_mut(..lent.work)?;
         let list = self.list.get_mut(..lent.list)?;
         let breaks = self.breaks.get_mut(..lent.breaks)?;
@@ -87,10 +77,10 @@ fn counted(call: Call, entries: usize) -> usize {
 }
 
 // Whether the answer is the refusal, or counts what both lists hold; a break has five entries.
-fn is_answer(case: Case, answer: CountedBreaks, refused: Option<u8>) -> bool {
+fn is_answer(case: Case, answer: Result<Counts, Refusal>, refused: Option<u8>) -> bool {
     match answer {
-        CountedBreaks::Refused(number) => refused == Some(number),
-        CountedBreaks::Counts { factors, breaks } => {
+        Err(refusal) => refused == Some(u8::from(refusal)),
+        Ok(Counts { factors, breaks }) => {
             refused.is_none()
                 && factors == counted(case.call, case.list.len())
                 && breaks == case.breaks.len() / 5

@@ -3,15 +3,14 @@ use access::{part, part_end, part_start};
 use samples::{about, paired_list};
 use summary::Summary;
 
-/// Whether the reader gives the part, or the refusal beside an empty one.
+/// Whether the reader gives the part, or the refusal.
 pub fn part_agrees(word: &[u8], pairs: &[u16], number: usize) -> bool {
-    let mut told: u8 = 200;
-    let found = reading::factor_at(word, pairs, number, &mut told);
-    match naive::part_refusal(word.len(), pairs, number) {
-        Some(line) => told == line && found.is_empty(),
-        None => {
+    let refused = naive::part_refusal(word.len(), pairs, number);
+    match reading::factor_at(word, pairs, number) {
+        Err(refusal) => refused == Some(u8::from(refusal)),
+        Ok(found) => {
             let want = part(word, part_start(pairs, number), part_end(pairs, number));
-            told == 0 && found == want
+            refused.is_none() && found == want
         }
     }
 }
@@ -22,7 +21,7 @@ fn are_bands(bands: &[u16; 13], pairs: &[u16]) -> bool {
     bands_and_digits.all(|(band, digits)| usize::from(*band) == access::in_band(pairs, digits))
 }
 
-// Whether the numbers of a summary are those of the parts, 0 throughout where there is none.
+// Whether the numbers of a summary are those of the parts.
 fn is_summary(summary: Summary, pairs: &[u16]) -> bool {
     let longest = access::longest(pairs);
     let from = access::latest(pairs, longest).unwrap_or(0);
@@ -33,12 +32,12 @@ fn is_summary(summary: Summary, pairs: &[u16]) -> bool {
         && are_bands(&bands, pairs)
 }
 
-/// Whether the summary is that of the parts, or the refusal beside that of no parts.
+/// Whether the summary is that of the parts, or the refusal.
 pub fn summary_agrees(word: &[u8], pairs: &[u16]) -> bool {
-    let summary = summary::summarize(word, pairs);
-    match naive::summary_refusal(word.len(), pairs) {
-        Some(line) => summary.refusal == line && is_summary(summary, &[]),
-        None => summary.refusal == 0 && is_summary(summary, pairs),
+    let refused = naive::summary_refusal(word.len(), pairs);
+    match summary::summarize(word, pairs) {
+        Err(refusal) => refused == Some(u8::from(refusal)),
+        Ok(summary) => refused.is_none() && is_summary(summary, pairs),
     }
 }
 
