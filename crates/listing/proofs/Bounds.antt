@@ -39,7 +39,8 @@ unfolding each_after
 each-most s t [] h = omega arith
 each-most s t (n ∷ ns) h = simp length-append (omega (arith, decimal-four n (h 0), each-most t s ns (λ i. h (suc i))))
 
-list-most : (s t : ℕ) (ns : List ℕ) → 0 < length ns → ((i : ℕ) → get_or ns i 0 ≤ most_letters) → length (list_by (s ∷ []) (t ∷ []) ns) ≤ 5 * length ns
+list-most : (s t : ℕ) (ns : List ℕ) → 0 < length ns → ((i : ℕ) → get_or ns i 0 ≤ most_letters)
+    → length (list_by (s ∷ []) (t ∷ []) ns) ≤ 5 * length ns
 unfolding list_by
 list-most s t [] l h = absurd (omega arith)
 list-most s t (n ∷ ns) l h = simp length-append (omega (arith, decimal-four n (h 0), each-most s t ns (λ i. h (suc i))))
@@ -72,7 +73,8 @@ longest-most (more {b = b} {e = e} {es = es} h r) = omega (arith, longest-most r
 pub start-most : (m : ℕ) {n b : ℕ} {es : List ℕ} → Rises n b es → start_of m b es ≤ n
 unfolding start_of
 start-most m (done z) = omega arith
-start-most m (more {b = b} {e = e} {es = es} h r) = ⊎_elim (λ z. omega (arith, z, rises-few r)) (λ z. omega (arith, z, start-most m r)) (start-either m b e es)
+start-most m (more {b = b} {e = e} {es = es} h r) =
+    ⊎_elim (λ z. omega (arith, z, rises-few r)) (λ z. omega (arith, z, start-most m r)) (start-either m b e es)
 
 pub bands-most : (es : List ℕ) (k : ℕ) → get_or (bands_of es) k 0 ≤ length es
 bands-most es k = go (dec_lt k 13)
@@ -83,7 +85,8 @@ bands-most es k = go (dec_lt k 13)
 
 -- ---- the seven lines
 
-pub total-most : (w : List ℕ) → Accepted w → total (lines_of (length w) (separated_pairs w) (separated_cfl_in_ends w) (summary_of (separated_icfl_ends w))) ≤ 15 * most_letters + 256
+pub total-most : (w : List ℕ) → Accepted w
+    → total (lines_of (length w) (separated_pairs w) (separated_cfl_in_ends w) (summary_of (separated_icfl_ends w))) ≤ 15 * most_letters + 256
 unfolding summary_of
 total-most w a = simp line-length (omega (
   arith,

@@ -1,10 +1,8 @@
 -- What the functions that write a listing ask and promise. No call's promise cites this file.
-use Rattle.std.specs.Prelude.{◌≡◌, List, [], ◌∷◌, ℕ, ◌+◌, ◌*◌, ◌≤◌, length, Result, Ok, Err}
+use Rattle.std.specs.Prelude.{◌≡◌, List, [], ◌∷◌, ℕ, ◌+◌, ◌*◌, ◌≤◌, length}
 use Rattle.words.specs.Words.{most_letters}
 use Rattle.words.specs.Separated.{separated_cfl_in_ends}
 use Rattle.words.specs.Pairs.{separated_pairs}
-use Rattle.checks.specs.Lines.{Accepted}
-use Rattle.checks.specs.declared.refusals.Refusal.{Refusal}
 use Rattle.summary.specs.declared.Summary.{Summary}
 use Rattle.listing.specs.Listing.{lines_of}
 
@@ -18,9 +16,8 @@ pub record Printable (n : ℕ) (pairs strict : List ℕ) (summary : Summary) (ou
   pub room : total (lines_of n pairs strict summary) ≤ length out
   pub thirteen : 13 ≡ length summary.bands
 
--- what both cuts of an accepted record write, and room for its listing
+-- what both cuts of a record write, and room for its listing
 pub record CutLists (w pairs strict out : List ℕ) : Type 0 where
-  pub accepted : Accepted w
   pub pieces : pairs ≡ separated_pairs w
   pub stricts : strict ≡ separated_cfl_in_ends w
   pub writing : 15 * most_letters + 256 ≤ length out
@@ -32,8 +29,3 @@ pub record ListingRoom (work pairs strict out : List ℕ) : Type 0 where
   pub cutting : 2 * most_letters ≤ length pairs
   pub strict_cutting : most_letters ≤ length strict
   pub writing : 15 * most_letters + 256 ≤ length out
-
--- the number that an answer tells of, 0 beside a refusal
-abbrev pub count_of : Result ℕ Refusal → ℕ
-count_of (Ok n) = n
-count_of (Err number) = 0

@@ -3,12 +3,11 @@
 
 mod lines;
 
-ghost use Rattle.std.specs.Prelude.{◌≡◌};
 ghost use Rattle.text.specs.Writing.{WroteAt};
 ghost use Rattle.listing.specs.Listing.{listing_of, Listed};
-ghost use Rattle.listing.specs.Writing.{CutLists, ListingRoom, count_of};
+ghost use Rattle.listing.specs.Writing.{CutLists, ListingRoom};
 
-use checks::{Checked, Counted, MOST};
+use checks::{MOST, Record};
 
 /// The entries of a work buffer that every record can be cut in.
 pub const WORK: usize = 3 * MOST;
@@ -19,45 +18,31 @@ pub const PAIRS: usize = 2 * MOST;
 /// The bytes of a buffer that every listing fits into: five for each entry of each cut, and 256 for all else.
 pub const LISTING: usize = 15 * MOST + 256;
 
-// The listing of a record that was cut.
-fn write_result(word: &[u8], pairs: &[u16], strict: &[u16], out: &mut [u8]) -> usize
-    requires { CutLists word.now pairs.now strict.now out.old }
-    ensures { WroteAt 0 (listing_of word.now) out.old result out.new }
+// The listing of an accepted record that was cut.
+fn write_result(record: Record, pairs: &[u16], strict: &[u16], out: &mut [u8]) -> usize
+    requires { CutLists record.letters.now pairs.now strict.now out.old }
+    ensures { WroteAt 0 (listing_of record.entry.letters.now) out.old result out.new }
 {
-    let summary = summary::summarize_pairs(word, pairs);
-    lines::write_lines(word.len() as u16, pairs, strict, summary, out)
+    let summary = summary::sum_up(pairs);
+    lines::write_lines(record.letters.len() as u16, pairs, strict, summary, out)
 }
 
-// How many factors a cut found; 0 beside a refusal.
-fn count_of(cut: Counted) -> usize
-    ensures { result ≡ count_of cut }
-{
-    match cut {
-        Counted::Count(count) => count,
-        Counted::Refused(_) => 0,
-    }
-}
-
-// The listing, in buffers that have room for every record: neither cut refuses one that was accepted.
-fn list_word(
-    word: &[u8],
+// The listing of an accepted record, in buffers that have room for every record: neither cut refuses it.
+fn list_record(
+    record: Record,
     work: &mut [u16],
     pairs: &mut [u16],
     strict: &mut [u16],
     out: &mut [u8],
 ) -> usize
     requires { ListingRoom work.old pairs.old strict.old out.old }
-    ensures { Listed word.now work.old pairs.old strict.old out.old result
+    ensures { Listed record.entry.letters.now work.old pairs.old strict.old out.old result
         work.new pairs.new strict.new out.new }
 {
-    let recorded = checks::check_record(word);
-    let Checked::Passed = recorded else {
-        return lines::write_refusal(recorded.number(), out);
-    };
-    let pieces = count_of(icfl::cut(word, work, pairs));
-    let stricts = count_of(cfl::cut(word, strict));
+    let pieces = icfl::cut(record, work, pairs).unwrap();
+    let stricts = cfl::cut(record, strict).unwrap();
     write_result(
-        word,
+        record,
         &pairs[..pairs::entries(pieces)],
         &strict[..stricts],
         out,
@@ -77,5 +62,8 @@ pub fn write_listing(
     ensures { Listed word.now work.old pairs.old strict.old out.old result
         work.new pairs.new strict.new out.new }
 {
-    list_word(word, work, pairs, strict, out)
+    match Record::admit(word) {
+        Ok(record) => list_record(record, work, pairs, strict, out),
+        Err(refusal) => lines::write_refusal(refusal, out),
+    }
 }

@@ -1,9 +1,11 @@
 //! The lines of a listing, written to the front of a lent buffer. Each function answers their length.
 ghost use Rattle.std.specs.Prelude.{◌≡◌};
+ghost use Rattle.checks.specs.Answers.{number_of};
 ghost use Rattle.text.specs.Writing.{FitsAt, WroteAt, Wrote};
 ghost use Rattle.listing.specs.Listing.{seven_lines, refused_line};
 ghost use Rattle.listing.specs.Writing.{Printable};
 
+use checks::Refusal;
 use summary::Summary;
 use text::Page;
 
@@ -40,11 +42,12 @@ pub fn write_lines(
 }
 
 // The one line of a record that was refused.
-pub fn write_refusal(number: u8, out: &mut [u8]) -> usize
-    requires { FitsAt 0 (refused_line number) out.old }
-    ensures { WroteAt 0 (refused_line number) out.old result out.new }
+pub fn write_refusal(refusal: Refusal, out: &mut [u8]) -> usize
+    requires { FitsAt 0 (refused_line (number_of refusal)) out.old }
+    ensures { WroteAt 0 (refused_line (number_of refusal)) out.old result out.new }
 {
+    let number = u8::from(refusal);
     let mut page = Page { out, at: 0 };
-    page.write_number_line(b"refused", number as u16);
+    page.write_number_line(b"refused", u16::from(number));
     page.at
 }

@@ -9,7 +9,7 @@ ghost use Rattle.judging.specs.Judging.{Turn};
 ghost use Rattle.matching.specs.Matching.{PartFits, PairsDecided, StrictDecided};
 
 use parsing::{Items, Pairs};
-use strict::Run;
+use strict::Factors;
 
 // Whether a part stands up to the judge beside the next one, and has as many strict pieces as its pair says.
 fn part_fits(word: &[u8], first: usize, end: usize, next: usize, count: u16) -> bool
@@ -61,20 +61,11 @@ pub fn strict_are(word: &[u8], ends: Items) -> bool
     requires { length word.now ≤ most_letters }
     ensures { StrictDecided word.now ends.entry.text.now ends.entry.next result }
 {
-    let mut run = Run {
-        length: 0,
-        until: 0,
-    };
-    let mut from: usize = 0;
+    let mut factors = Factors::of(word);
     for end in ends {
-        if word.len() <= from {
-            return false;
-        }
-        run = strict::run_at(word, from, run);
-        from += run.length;
-        if usize::from(end) != from {
+        if factors.next() != Some(usize::from(end)) {
             return false;
         }
     }
-    from == word.len()
+    factors.next().is_none()
 }

@@ -1,14 +1,16 @@
--- The piece cut's pairs are accepted by the summary, so the lines are the listing's.
+-- The piece cut's pairs can be summed up, and so the lines are the listing's.
 use native.Mathlib.Omega.{arith}
-use Rattle.listing.proofs.Results.{printable, lines_are}
+use Rattle.listing.proofs.Results.{summable-pairs, printable, lines_are}
 use Rattle.listing.proofs.write_result.Goals as goal
 
-pub overflow_cast-word : goal.overflow_cast-word
-overflow_cast-word c = omega (arith, c.requires.accepted.short)
+pub sum_up-summary-requires : goal.sum_up-summary-requires
+sum_up-summary-requires c = summable-pairs c.args.record.accepted c.requires
+
+pub overflow_cast-record : goal.overflow_cast-record
+overflow_cast-record c = omega (arith, c.args.record.accepted.short)
 
 pub write_lines-requires : goal.write_lines-requires
-write_lines-requires c = printable _ _ _ _ c.requires _ c.summarize_pairs-summary.ensures
+write_lines-requires c = printable c.args.record.accepted c.requires c.sum_up-summary.ensures
 
 pub returns : goal.returns
-returns c =
-    rw (← lines_are _ _ _ _ c.requires _ c.summarize_pairs-summary.ensures) c.write_lines.ensures
+returns c = rw (← lines_are c.args.record.accepted c.requires c.sum_up-summary.ensures) c.write_lines.ensures
