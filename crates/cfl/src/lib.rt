@@ -21,11 +21,11 @@ fn check_room(word: &[u8], entries: usize) -> Result<(), Refusal>
 }
 
 /// The strict cut of an accepted record: the call's own line, 4, and its work.
-pub fn cut(record: Record, ends: &mut [u16]) -> Result<usize, Refusal>
-    ensures { CflInDone [] record.entry.letters.now ends.old (count_says result) ends.new }
+pub fn cut(admitted: Record, ends: &mut [u16]) -> Result<usize, Refusal>
+    ensures { CflInDone [] admitted.entry.letters.now ends.old (count_says result) ends.new }
 {
-    check_room(record.letters, ends.len())?;
-    Ok(strict::write_ends(record.letters, ends))
+    check_room(admitted.letters, ends.len())?;
+    Ok(strict::write_ends(admitted.letters, ends))
 }
 
 /// The strict cut: writes the ends of the factors from entry 0 on, and answers their number. Each separator is a
@@ -33,6 +33,6 @@ pub fn cut(record: Record, ends: &mut [u16]) -> Result<usize, Refusal>
 pub fn cfl_in(word: &[u8], ends: &mut [u16]) -> Result<usize, Refusal>
     ensures { CflInDone (record_lines word.now) word.now ends.old (count_says result) ends.new }
 {
-    let record = Record::admit(word)?;
-    cut(record, ends)
+    let admitted = Record::admit(word)?;
+    cut(admitted, ends)
 }

@@ -24,15 +24,15 @@ fn admit(
 
 /// The comparison in an accepted record: the call's own lines, 5 and 6, and its work.
 pub fn compare_within(
-    record: Record,
+    admitted: Record,
     first: usize,
     end: usize,
     start: usize,
     other: usize,
 ) -> Result<Order, Refusal>
-    ensures { Compared [] record.entry.letters.now first end start other (comparison_says result) }
+    ensures { Compared [] admitted.entry.letters.now first end start other (comparison_says result) }
 {
-    let word = record.letters;
+    let word = admitted.letters;
     admit(word.len(), first, end, start, other)?;
     Ok(common::compare_words(&word[start..end], &word[other..end]))
 }
@@ -49,6 +49,6 @@ pub fn compare_suffixes(
 ) -> Result<Order, Refusal>
     ensures { Compared (record_lines word.now) word.now first end start other (comparison_says result) }
 {
-    let record = Record::admit(word)?;
-    compare_within(record, first, end, start, other)
+    let admitted = Record::admit(word)?;
+    compare_within(admitted, first, end, start, other)
 }

@@ -23,8 +23,8 @@ use numbers::{Replies, SummaryReply};
 fn places_of(word: &[u8], pairs: &[u16], number: usize) -> Result<(u16, u16), Refusal>
     ensures { place_numbers result ≡ factor_numbers (export_door word.now) word.now pairs.now number }
 {
-    let record = Record::admit(word)?;
-    checks::check_part(pairs, record.letters.len(), number)?;
+    let admitted = Record::admit(word)?;
+    checks::check_part(pairs, admitted.letters.len(), number)?;
     Ok((
         pairs::factor_from(pairs, number),
         pairs::factor_end(pairs, number),

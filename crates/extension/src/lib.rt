@@ -78,10 +78,10 @@ pub fn extension_of(word: &[u8], work: &mut [u16]) -> Option<Extension>
 
 /// The test of an accepted record: the call's own lines, 3 and 9, and its work. The letters are looked at only past
 /// line 3.
-pub fn test(record: Record, work: &mut [u16]) -> Result<Option<Extension>, Refusal>
-    ensures { ExtensionFound [] record.entry.letters.now work.old (test_says result) work.new }
+pub fn test(admitted: Record, work: &mut [u16]) -> Result<Option<Extension>, Refusal>
+    ensures { ExtensionFound [] admitted.entry.letters.now work.old (test_says result) work.new }
 {
-    let word = record.letters;
+    let word = admitted.letters;
     checks::check_work(work.len(), word.len())?;
     checks::check_marks(word)?;
     let found = extension_of(word, work);
@@ -94,6 +94,6 @@ pub fn test(record: Record, work: &mut [u16]) -> Result<Option<Extension>, Refus
 pub fn find_extension(word: &[u8], work: &mut [u16]) -> Result<Option<Extension>, Refusal>
     ensures { ExtensionFound (record_lines word.now) word.now work.old (test_says result) work.new }
 {
-    let record = Record::admit(word)?;
-    test(record, work)
+    let admitted = Record::admit(word)?;
+    test(admitted, work)
 }

@@ -20,10 +20,10 @@ fn fill_pairs(word: &[u8], ends: &[u16], pairs: &mut [u16]) -> Result<usize, Ref
 }
 
 /// The piece cut of an accepted record: the call's own lines, 3 and 4, and its work.
-pub fn cut(record: Record, work: &mut [u16], pairs: &mut [u16]) -> Result<usize, Refusal>
-    ensures { IcflDone [] record.entry.letters.now work.old pairs.old (count_says result) work.new pairs.new }
+pub fn cut(admitted: Record, work: &mut [u16], pairs: &mut [u16]) -> Result<usize, Refusal>
+    ensures { IcflDone [] admitted.entry.letters.now work.old pairs.old (count_says result) work.new pairs.new }
 {
-    let word = record.letters;
+    let word = admitted.letters;
     let n = word.len();
     checks::check_work(work.len(), 3 * n)?;
     let found = breaks::find_ends(word, work);
@@ -40,6 +40,6 @@ pub fn icfl(word: &[u8], work: &mut [u16], pairs: &mut [u16]) -> Result<usize, R
     ensures { IcflDone (record_lines word.now) word.now work.old pairs.old (count_says result)
         work.new pairs.new }
 {
-    let record = Record::admit(word)?;
-    cut(record, work, pairs)
+    let admitted = Record::admit(word)?;
+    cut(admitted, work, pairs)
 }

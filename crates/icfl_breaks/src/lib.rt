@@ -40,15 +40,15 @@ fn fill_both(
 
 /// The piece cut with its reasons of an accepted record: the call's own lines, 3 and twice 4, and its work.
 pub fn cut_with_breaks(
-    record: Record,
+    admitted: Record,
     work: &mut [u16],
     pairs: &mut [u16],
     breaks: &mut [u16],
 ) -> Result<Counts, Refusal>
-    ensures { BreaksDone [] record.entry.letters.now work.old pairs.old breaks.old (breaks_says result)
+    ensures { BreaksDone [] admitted.entry.letters.now work.old pairs.old breaks.old (breaks_says result)
                 work.new pairs.new breaks.new }
 {
-    let word = record.letters;
+    let word = admitted.letters;
     let n = word.len();
     checks::check_work(work.len(), 3 * n)?;
     let found = breaks::find_ends(word, work);
@@ -70,6 +70,6 @@ pub fn icfl_with_breaks(
     ensures { BreaksDone (record_lines word.now) word.now work.old pairs.old breaks.old (breaks_says result)
                 work.new pairs.new breaks.new }
 {
-    let record = Record::admit(word)?;
-    cut_with_breaks(record, work, pairs, breaks)
+    let admitted = Record::admit(word)?;
+    cut_with_breaks(admitted, work, pairs, breaks)
 }

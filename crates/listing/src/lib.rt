@@ -19,28 +19,28 @@ pub const PAIRS: usize = 2 * MOST;
 pub const LISTING: usize = 15 * MOST + 256;
 
 // The listing of an accepted record that was cut.
-fn write_result(record: Record, pairs: &[u16], strict: &[u16], out: &mut [u8]) -> usize
-    requires { CutLists record.letters.now pairs.now strict.now out.old }
-    ensures { WroteAt 0 (listing_of record.entry.letters.now) out.old result out.new }
+fn write_result(admitted: Record, pairs: &[u16], strict: &[u16], out: &mut [u8]) -> usize
+    requires { CutLists admitted.letters.now pairs.now strict.now out.old }
+    ensures { WroteAt 0 (listing_of admitted.entry.letters.now) out.old result out.new }
 {
     let summary = summary::sum_up(pairs);
-    lines::write_lines(record.letters.len() as u16, pairs, strict, summary, out)
+    lines::write_lines(admitted.letters.len() as u16, pairs, strict, summary, out)
 }
 
 // The listing of an accepted record, in buffers that have room for every record: neither cut refuses it.
 fn list_record(
-    record: Record,
+    admitted: Record,
     work: &mut [u16],
     pairs: &mut [u16],
     strict: &mut [u16],
     out: &mut [u8],
 ) -> usize
     requires { ListingRoom work.old pairs.old strict.old out.old }
-    ensures { Listed record.entry.letters.now work.old pairs.old strict.old out.old result
+    ensures { Listed admitted.entry.letters.now work.old pairs.old strict.old out.old result
         work.new pairs.new strict.new out.new }
 {
-    let pieces = icfl::cut(record, work, pairs).unwrap();
-    let stricts = cfl::cut(record, strict).unwrap();
+    let pieces = icfl::cut(admitted, work, pairs).unwrap();
+    let stricts = cfl::cut(admitted, strict).unwrap();
     write_result(
         record,
         &pairs[..pairs::entries(pieces)],
@@ -63,7 +63,7 @@ pub fn write_listing(
         work.new pairs.new strict.new out.new }
 {
     match Record::admit(word) {
-        Ok(record) => list_record(record, work, pairs, strict, out),
+        Ok(admitted) => list_record(admitted, work, pairs, strict, out),
         Err(refusal) => lines::write_refusal(refusal, out),
     }
 }

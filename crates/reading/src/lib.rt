@@ -10,13 +10,13 @@ ghost use Rattle.checks.specs.Answers.{outcome, checked_number};
 use checks::{Record, Refusal};
 
 /// Part `number` of an accepted record: the call's own lines, 7 and 8, and its work.
-pub fn part_at<'a>(record: Record<'a>, pairs: &[u16], number: usize) -> Result<&'a [u8], Refusal>
-    ensures { FactorAt [] record.entry.letters.now pairs.now number (part_of result) (checked_number (outcome result)) }
+pub fn part_at<'a>(admitted: Record<'a>, pairs: &[u16], number: usize) -> Result<&'a [u8], Refusal>
+    ensures { FactorAt [] admitted.entry.letters.now pairs.now number (part_of result) (checked_number (outcome result)) }
 {
-    checks::check_part(pairs, record.letters.len(), number)?;
+    checks::check_part(pairs, admitted.letters.len(), number)?;
     let from = pairs::factor_from(pairs, number) as usize;
     let end = pairs::factor_end(pairs, number) as usize;
-    Ok(&record.letters[from..end])
+    Ok(&admitted.letters[from..end])
 }
 
 /// Part `number`, counted from 0, of the record: the letters from the end before it to its own end in `pairs`, the
@@ -24,6 +24,6 @@ pub fn part_at<'a>(record: Record<'a>, pairs: &[u16], number: usize) -> Result<&
 pub fn factor_at<'a>(word: &'a [u8], pairs: &[u16], number: usize) -> Result<&'a [u8], Refusal>
     ensures { FactorAt (record_lines word.now) word.now pairs.now number (part_of result) (checked_number (outcome result)) }
 {
-    let record = Record::admit(word)?;
-    part_at(record, pairs, number)
+    let admitted = Record::admit(word)?;
+    part_at(admitted, pairs, number)
 }

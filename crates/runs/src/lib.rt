@@ -24,12 +24,12 @@ fn check_room(word: &[u8], longest: &mut [u16], entries: usize) -> Result<(), Re
 }
 
 /// The runs of an accepted record: the call's own line, 4, and its work.
-pub fn list_runs(record: Record, runs: &mut [u16]) -> Result<usize, Refusal>
-    ensures { RunsDone [] record.entry.letters.now runs.old (count_says result) runs.new }
+pub fn list_runs(admitted: Record, runs: &mut [u16]) -> Result<usize, Refusal>
+    ensures { RunsDone [] admitted.entry.letters.now runs.old (count_says result) runs.new }
 {
     let mut longest = [0u16; checks::MOST];
-    check_room(record.letters, &mut longest, runs.len())?;
-    Ok(walking::list_runs(record.letters, &mut longest, runs))
+    check_room(admitted.letters, &mut longest, runs.len())?;
+    Ok(walking::list_runs(admitted.letters, &mut longest, runs))
 }
 
 /// The runs of a record: writes them by first place and then by period, three entries each (first place, end and
@@ -38,6 +38,6 @@ pub fn list_runs(record: Record, runs: &mut [u16]) -> Result<usize, Refusal>
 pub fn runs(word: &[u8], runs: &mut [u16]) -> Result<usize, Refusal>
     ensures { RunsDone (record_lines word.now) word.now runs.old (count_says result) runs.new }
 {
-    let record = Record::admit(word)?;
-    list_runs(record, runs)
+    let admitted = Record::admit(word)?;
+    list_runs(admitted, runs)
 }

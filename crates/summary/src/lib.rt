@@ -85,10 +85,10 @@ pub fn sum_up(pairs: &[u16]) -> Summary
 }
 
 /// The summary for an accepted record: the call's own line, 7, and its work.
-pub fn summarize_pairs(record: Record, pairs: &[u16]) -> Result<Summary, Refusal>
-    ensures { Summarized [] record.entry.letters.now pairs.now (summary_says result) }
+pub fn summarize_pairs(admitted: Record, pairs: &[u16]) -> Result<Summary, Refusal>
+    ensures { Summarized [] admitted.entry.letters.now pairs.now (summary_says result) }
 {
-    checks::check_pairs(pairs, record.letters.len())?;
+    checks::check_pairs(pairs, admitted.letters.len())?;
     Ok(sum_up(pairs))
 }
 
@@ -96,6 +96,6 @@ pub fn summarize_pairs(record: Record, pairs: &[u16]) -> Result<Summary, Refusal
 pub fn summarize(word: &[u8], pairs: &[u16]) -> Result<Summary, Refusal>
     ensures { Summarized (record_lines word.now) word.now pairs.now (summary_says result) }
 {
-    let record = Record::admit(word)?;
-    summarize_pairs(record, pairs)
+    let admitted = Record::admit(word)?;
+    summarize_pairs(admitted, pairs)
 }

@@ -10,10 +10,10 @@ ghost use Rattle.table.specs.Table.{Tabled};
 use checks::{Record, Refusal};
 
 /// The start table of an accepted record: the call's own line, 4, and its work.
-pub fn tabulate(record: Record, lengths: &mut [u16]) -> Result<usize, Refusal>
-    ensures { Tabled [] record.entry.letters.now lengths.old (count_says result) lengths.new }
+pub fn tabulate(admitted: Record, lengths: &mut [u16]) -> Result<usize, Refusal>
+    ensures { Tabled [] admitted.entry.letters.now lengths.old (count_says result) lengths.new }
 {
-    let word = record.letters;
+    let word = admitted.letters;
     checks::check_result(lengths.len(), word.len())?;
     merging::fill_table(word, lengths);
     Ok(word.len())
@@ -24,6 +24,6 @@ pub fn tabulate(record: Record, lengths: &mut [u16]) -> Result<usize, Refusal>
 pub fn lyndon_table(word: &[u8], lengths: &mut [u16]) -> Result<usize, Refusal>
     ensures { Tabled (record_lines word.now) word.now lengths.old (count_says result) lengths.new }
 {
-    let record = Record::admit(word)?;
-    tabulate(record, lengths)
+    let admitted = Record::admit(word)?;
+    tabulate(admitted, lengths)
 }

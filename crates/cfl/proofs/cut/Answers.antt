@@ -5,7 +5,7 @@ use Rattle.checks.proofs.RecordLaws.{enough}
 use Rattle.cfl.proofs.cut.Goals as goal
 
 pub check_room-requires : goal.check_room-requires
-check_room-requires c = c.args.record.accepted.short
+check_room-requires c = c.args.admitted.accepted.short
 
 pub returns-in_err-check_room : goal.returns-in_err-check_room
 returns-in_err-check_room c = rw (passed-up _ c.from_residual.ensures.1) (filled-refused _ _ _ c.in_err-check_room.ensures)

@@ -16,9 +16,9 @@ use Rattle.extension.specs.Extension.{extension_lines, ExtensionFound, TestRoom,
 use Rattle.extension.proofs.test.Goals as goal
 use Rattle.extension.proofs.test.Goals.{In_ok-check_work}
 
-room-at : (c : In_ok-check_work) → TestRoom c.args.record.letters.now c.args.work.now
+room-at : (c : In_ok-check_work) → TestRoom c.args.admitted.letters.now c.args.work.now
 room-at c =
-    let accepted = c.args.record.accepted in
+    let accepted = c.args.admitted.accepted in
     record { nonempty = accepted.nonempty; short = accepted.short; entries = enough 3 _ _ (sym c.in_ok-check_work.ensures) }
 
 verdict-found : {w work work₁ work₂ : List ℕ} {r : Option Extension} → tried (extension_lines w (length work)) ≡ Passed → Verdict w work r work₁

@@ -10,14 +10,14 @@ use Rattle.icfl.proofs.IcflCases.{cut-room, ends-part, work-refused, pairs-tried
 use Rattle.icfl.proofs.cut.Goals as goal
 use Rattle.icfl.proofs.cut.Goals.{In_ok-check_work, After-find_ends-found}
 
-room-at : (c : In_ok-check_work) → CutRoom c.args.record.letters.now c.args.work.now
-room-at c = cut-room c.args.record.accepted (sym c.in_ok-check_work.ensures)
+room-at : (c : In_ok-check_work) → CutRoom c.args.admitted.letters.now c.args.work.now
+room-at c = cut-room c.args.admitted.accepted (sym c.in_ok-check_work.ensures)
 
 -- the entries that will be cleared lie in the work buffer
-inside-at : (c : After-find_ends-found) → (3 * length c.args.record.letters.now ≤ length c.find_ends-found.new.work)
-    × (length c.args.record.letters.now ≤ length c.find_ends-found.new.work)
+inside-at : (c : After-find_ends-found) → (3 * length c.args.admitted.letters.now ≤ length c.find_ends-found.new.work)
+    × (length c.args.admitted.letters.now ≤ length c.find_ends-found.new.work)
 inside-at c =
-    let room = cut-room c.args.record.accepted (sym c.in_ok-check_work.ensures) in
+    let room = cut-room c.args.admitted.accepted (sym c.in_ok-check_work.ensures) in
     (omega (arith, room.entries, c.find_ends-found.auto), omega (arith, room.entries, c.find_ends-found.auto))
 
 pub returns-in_err-check_work : goal.returns-in_err-check_work
@@ -32,7 +32,7 @@ slice_bounds-fill_pairs-end c = omega (arith, inside-at (goal.at.slice_bounds-fi
 pub fill_pairs-filled-requires : goal.fill_pairs-filled-requires
 fill_pairs-filled-requires c =
     let inside = inside-at (goal.at.fill_pairs-filled-requires c).After-find_ends-found in
-    record { short = c.args.record.accepted.short; right = ends-part c.find_ends-found.ensures inside.1 }
+    record { short = c.args.admitted.accepted.short; right = ends-part c.find_ends-found.ensures inside.1 }
 
 pub clear-requires : goal.clear-requires
 clear-requires c = omega (arith, inside-at (goal.at.clear-requires c).After-find_ends-found)

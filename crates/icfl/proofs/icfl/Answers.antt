@@ -4,8 +4,8 @@ use Rattle.checks.proofs.LineLaws.{passed-up}
 use Rattle.icfl.proofs.IcflCases.{icfl-at-door, icfl-past-door}
 use Rattle.icfl.proofs.icfl.Goals as goal
 
-pub returns-in_err-record : goal.returns-in_err-record
-returns-in_err-record c = rw (passed-up _ c.from_residual.ensures.1) (icfl-at-door _ _ _ _ refl c.in_err-record.ensures.says)
+pub returns-in_err-admitted : goal.returns-in_err-admitted
+returns-in_err-admitted c = rw (passed-up _ c.from_residual.ensures.1) (icfl-at-door _ _ _ _ refl c.in_err-admitted.ensures.says)
 
 pub returns : goal.returns
-returns c = icfl-past-door _ _ _ _ (sym c.in_ok-record.ensures.says) (rw c.in_ok-record.ensures.same at c.cut.ensures)
+returns c = icfl-past-door _ _ _ _ (sym c.in_ok-admitted.ensures.says) (rw c.in_ok-admitted.ensures.same at c.cut.ensures)

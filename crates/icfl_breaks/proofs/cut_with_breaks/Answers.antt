@@ -11,13 +11,13 @@ use Rattle.icfl_breaks.proofs.BreaksCases.{breaks-work-refused, breaks-tried}
 use Rattle.icfl_breaks.proofs.cut_with_breaks.Goals as goal
 use Rattle.icfl_breaks.proofs.cut_with_breaks.Goals.{In_ok-check_work, After-find_ends-found}
 
-room-at : (c : In_ok-check_work) → CutRoom c.args.record.letters.now c.args.work.now
-room-at c = cut-room c.args.record.accepted (sym c.in_ok-check_work.ensures)
+room-at : (c : In_ok-check_work) → CutRoom c.args.admitted.letters.now c.args.work.now
+room-at c = cut-room c.args.admitted.accepted (sym c.in_ok-check_work.ensures)
 
 -- the entries that will be cleared lie in the work buffer
-inside-at : (c : After-find_ends-found) → 3 * length c.args.record.letters.now ≤ length c.find_ends-found.new.work
+inside-at : (c : After-find_ends-found) → 3 * length c.args.admitted.letters.now ≤ length c.find_ends-found.new.work
 inside-at c =
-    let room = cut-room c.args.record.accepted (sym c.in_ok-check_work.ensures) in
+    let room = cut-room c.args.admitted.accepted (sym c.in_ok-check_work.ensures) in
     omega (arith, room.entries, c.find_ends-found.auto)
 
 pub returns-in_err-check_work : goal.returns-in_err-check_work
@@ -28,7 +28,7 @@ find_ends-found-requires c = room-at (goal.at.find_ends-found-requires c).In_ok-
 
 pub fill_both-filled-requires : goal.fill_both-filled-requires
 fill_both-filled-requires c =
-    let accepted = c.args.record.accepted in
+    let accepted = c.args.admitted.accepted in
     let found = c.find_ends-found.ensures in
     record {
       room = record {

@@ -7,7 +7,7 @@ use Rattle.reading.proofs.FactorLaws.{Placed, placed}
 use Rattle.reading.proofs.part_at.Goals as goal
 use Rattle.reading.proofs.part_at.Goals.{In_ok-check_part}
 
-placed-at : (c : In_ok-check_part) → Placed c.args.record.letters.now (ends_of c.args.pairs.now) c.args.number
+placed-at : (c : In_ok-check_part) → Placed c.args.admitted.letters.now (ends_of c.args.pairs.now) c.args.number
 placed-at c = placed _ _ _ (sym c.in_ok-check_part.ensures)
 
 pub factor_from-from-requires : goal.factor_from-from-requires
@@ -32,5 +32,5 @@ returns c = record {
   number_is = rw (sym c.in_ok-check_part.ensures);
   part-is =
       rw (sym c.in_ok-check_part.ensures, ← c.factor_from-from.ensures, ← c.factor_end-end.ensures)
-      (part-is c.factor_from-from.result c.factor_end-end.result c.args.record.letters.now);
+      (part-is c.factor_from-from.result c.factor_end-end.result c.args.admitted.letters.now);
 }

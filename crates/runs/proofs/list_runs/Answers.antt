@@ -6,14 +6,14 @@ use Rattle.checks.proofs.RecordLaws.{enough}
 use Rattle.runs.proofs.list_runs.Goals as goal
 
 pub check_room-requires : goal.check_room-requires
-check_room-requires c = record { accepted = c.args.record.accepted; work = omega arith }
+check_room-requires c = record { accepted = c.args.admitted.accepted; work = omega arith }
 
 pub returns-in_err-check_room : goal.returns-in_err-check_room
 returns-in_err-check_room c = rw (passed-up _ c.from_residual.ensures.1) (filled-refused _ _ _ c.in_err-check_room.ensures)
 
 pub list_runs-requires : goal.list_runs-requires
 list_runs-requires c = record {
-  count = record { short = c.args.record.accepted.short; work = omega (arith, c.check_room.auto.longest) };
+  count = record { short = c.args.admitted.accepted.short; work = omega (arith, c.check_room.auto.longest) };
   room = enough 4 _ _ (sym c.in_ok-check_room.ensures);
 }
 

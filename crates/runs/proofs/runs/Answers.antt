@@ -3,8 +3,8 @@ use mathlib.Core.Path.{sym}
 use Rattle.checks.proofs.LineLaws.{passed-up, filled-at-door, filled-past-door}
 use Rattle.runs.proofs.runs.Goals as goal
 
-pub returns-in_err-record : goal.returns-in_err-record
-returns-in_err-record c = rw (passed-up _ c.from_residual.ensures.1) (filled-at-door _ _ _ _ _ c.in_err-record.ensures.says)
+pub returns-in_err-admitted : goal.returns-in_err-admitted
+returns-in_err-admitted c = rw (passed-up _ c.from_residual.ensures.1) (filled-at-door _ _ _ _ _ c.in_err-admitted.ensures.says)
 
 pub returns : goal.returns
-returns c = filled-past-door _ (sym c.in_ok-record.ensures.says) (rw c.in_ok-record.ensures.same at c.list_runs.ensures)
+returns c = filled-past-door _ (sym c.in_ok-admitted.ensures.says) (rw c.in_ok-admitted.ensures.same at c.list_runs.ensures)

@@ -11,7 +11,7 @@ returns-in_err-check_pairs c =
     rw (passed-up _ c.from_residual.ensures.1) (record { answer = refused _ _ (λ (n : ℕ). refuses n) c.in_err-check_pairs.ensures })
 
 pub sum_up-requires : goal.sum_up-requires
-sum_up-requires c = summable (ends-admitted _ _ c.args.record.accepted (sym c.in_ok-check_pairs.ensures))
+sum_up-requires c = summable (ends-admitted _ _ c.args.admitted.accepted (sym c.in_ok-check_pairs.ensures))
 
 pub returns : goal.returns
 returns c = record { answer = rw (sym c.in_ok-check_pairs.ensures, c.sum_up.ensures) }

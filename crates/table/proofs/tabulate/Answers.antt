@@ -10,5 +10,5 @@ returns-in_err-check_result c = rw (passed-up _ c.from_residual.ensures.1) (fill
 
 pub fill_table-requires : goal.fill_table-requires
 fill_table-requires c =
-    let short = c.args.record.accepted.short in
+    let short = c.args.admitted.accepted.short in
     record { short = short; room = omega (arith, short, enough 4 _ _ (sym c.in_ok-check_result.ensures)) }
