@@ -20,7 +20,7 @@ use Rattle.theory.proofs.Stretches.RecordPairs.{pairs-ends}
 use Rattle.buffers.specs.Buffers.{cleared, written}
 use Rattle.checks.specs.declared.refusals.Refusal.{Refusal}
 use Rattle.checks.specs.Lines.{Line, tried, Accepted, Passed, Refused}
-use Rattle.checks.specs.Answers.{number_of, Filled}
+use Rattle.checks.specs.Answers.{number_of, Filled, Says, gives, count_says}
 use Rattle.checks.proofs.LineLaws.{not-both, refused, all_pass, refused-tested, filled-front, filled-number}
 use Rattle.checks.proofs.RecordLaws.{record-passes}
 use Rattle.pairs.proofs.PairsLaws.{own-pairs}
@@ -63,10 +63,10 @@ module _ (w : List ℕ) (refusal : Refusal) (e : Refused (number_of refusal) ≡
 -- ---- a record that is accepted
 
 -- a cut whose lines pass answers a number
-filled-ok : {lines : List Line} {n : ℕ} {vs buffer buffer' : List ℕ} {r : Result ℕ Refusal} → Filled lines n vs buffer r buffer'
+filled-ok : {lines : List Line} {n : ℕ} {vs buffer buffer' : List ℕ} (r : Result ℕ Refusal) → Filled lines n vs buffer (count_says r) buffer'
     → tried lines ≡ Passed → IsOk r
-filled-ok {r = Ok m} f e = search
-filled-ok {r = Err refusal} f e = absurd (not-both (filled-number f).0 e)
+filled-ok (Ok m) f e = search
+filled-ok (Err refusal) f e = absurd (not-both (filled-number f).0 e)
 
 module _ (w : List ℕ) (a : Accepted w) where
   lets-in : tried (listing_door w) ≡ Passed
@@ -124,15 +124,15 @@ module _ {w work pairs strict out : List ℕ} (room : ListingRoom work pairs str
   stricts-pass : tried (cfl_in_lines w (length strict)) ≡ Passed
   stricts-pass = cfl-in-passes w a (length strict) room.strict_cutting
 
-  pub pieces-ok : {work' pairs' : List ℕ} {r : Result ℕ Refusal} → IcflDone [] w work pairs r work' pairs' → IsOk r
-  pieces-ok cut = filled-ok (icfl-filled cut) pieces-pass
+  pub pieces-ok : {work' pairs' : List ℕ} (r : Result ℕ Refusal) → IcflDone [] w work pairs (count_says r) work' pairs' → IsOk r
+  pieces-ok r cut = filled-ok r (icfl-filled cut) pieces-pass
 
-  pub stricts-ok : {strict' : List ℕ} {r : Result ℕ Refusal} → CflInDone [] w strict r strict' → IsOk r
-  stricts-ok cut = filled-ok cut stricts-pass
+  pub stricts-ok : {strict' : List ℕ} (r : Result ℕ Refusal) → CflInDone [] w strict (count_says r) strict' → IsOk r
+  stricts-ok r cut = filled-ok r cut stricts-pass
 
   -- they answer how much they wrote
-  module _ {work' pairs' : List ℕ} {r : Result ℕ Refusal} {pieces : ℕ} (cut : IcflDone [] w work pairs r work' pairs') (p : r ≡ Ok pieces) where
-    cut_ok : IcflDone [] w work pairs (Ok pieces) work' pairs'
+  module _ {work' pairs' : List ℕ} {r : Result ℕ Refusal} {pieces : ℕ} (cut : IcflDone [] w work pairs (count_says r) work' pairs') (p : r ≡ Ok pieces) where
+    cut_ok : IcflDone [] w work pairs (gives pieces) work' pairs'
     cut_ok = rw p at cut
 
     pub pieces-few : pieces ≤ most_letters
@@ -142,12 +142,12 @@ module _ {w work pairs strict out : List ℕ} (room : ListingRoom work pairs str
       pub pairs-inside : entries ≤ length pairs'
       pairs-inside = omega (arith, n, (pairs-front cut_ok).1)
 
-      module _ {strict' : List ℕ} {t : Result ℕ Refusal} {stricts : ℕ} (strict-cut : CflInDone [] w strict t strict') (q : t ≡ Ok stricts) where
+      module _ {strict' : List ℕ} {t : Result ℕ Refusal} {stricts : ℕ} (strict-cut : CflInDone [] w strict (count_says t) strict') (q : t ≡ Ok stricts) where
         pub lists : CutLists w (take entries pairs') (take stricts strict') out
         lists = record { pieces = rw n (pairs-front cut_ok).0; stricts = (filled-front (rw q at strict-cut)).0; writing = room.writing }
 
-  pub listed : {work' pairs' strict' : List ℕ} {r t : Result ℕ Refusal} {n : ℕ} {out' : List ℕ} → IcflDone [] w work pairs r work' pairs'
-      → CflInDone [] w strict t strict' → WroteAt 0 (listing_of w) out n out' → Listed w work pairs strict out n work' pairs' strict' out'
+  pub listed : {work' pairs' strict' : List ℕ} {said told : Says ℕ} {n : ℕ} {out' : List ℕ} → IcflDone [] w work pairs said work' pairs'
+      → CflInDone [] w strict told strict' → WroteAt 0 (listing_of w) out n out' → Listed w work pairs strict out n work' pairs' strict' out'
   listed cut strict-cut x = record {
     size = x.place ∙ zero-add _;
     text = wrote-front x (omega (arith, room.writing, listing-most w a));

@@ -42,7 +42,7 @@ fn list_record(
     let pieces = icfl::cut(admitted, work, pairs).unwrap();
     let stricts = cfl::cut(admitted, strict).unwrap();
     write_result(
-        record,
+        admitted,
         &pairs[..pairs::entries(pieces)],
         &strict[..stricts],
         out,

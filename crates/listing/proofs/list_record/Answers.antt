@@ -5,10 +5,10 @@ use Rattle.listing.proofs.Results.{pieces-ok, stricts-ok, pieces-few, pairs-insi
 use Rattle.listing.proofs.list_record.Goals as goal
 
 pub unwrap-pieces-requires : goal.unwrap-pieces-requires
-unwrap-pieces-requires c = pieces-ok c.requires c.args.admitted.accepted c.cut.ensures
+unwrap-pieces-requires c = pieces-ok c.requires c.args.admitted.accepted c.cut.result c.cut.ensures
 
 pub unwrap-stricts-requires : goal.unwrap-stricts-requires
-unwrap-stricts-requires c = stricts-ok c.requires c.args.admitted.accepted c.cut-2.ensures
+unwrap-stricts-requires c = stricts-ok c.requires c.args.admitted.accepted c.cut-2.result c.cut-2.ensures
 
 pub entries-requires : goal.entries-requires
 entries-requires c = pieces-few c.requires c.args.admitted.accepted c.cut.ensures c.unwrap-pieces.ensures

@@ -6,8 +6,8 @@ use Rattle.listing.proofs.write_result.Goals as goal
 pub sum_up-summary-requires : goal.sum_up-summary-requires
 sum_up-summary-requires c = summable-pairs c.args.admitted.accepted c.requires
 
-pub overflow_cast-record : goal.overflow_cast-record
-overflow_cast-record c = omega (arith, c.args.admitted.accepted.short)
+pub overflow_cast-admitted : goal.overflow_cast-admitted
+overflow_cast-admitted c = omega (arith, c.args.admitted.accepted.short)
 
 pub write_lines-requires : goal.write_lines-requires
 write_lines-requires c = printable c.args.admitted.accepted c.requires c.sum_up-summary.ensures
