@@ -37,7 +37,7 @@ pub fn icfl_batch(
     pairs: &mut [u16],
 ) -> Result<Answers, Refusal>
     ensures { BatchDone record_lines bytes.now record_ends.now work.old pairs.old (batch_says result)
-                work.new pairs.new }
+        work.new pairs.new }
 {
     checks::check_record_ends(record_ends, bytes.len())?;
     let mut answers = [Ok(0); MOST_RECORDS];

@@ -18,7 +18,7 @@ use Rattle.std.proofs.lemmas.Result.{err_from_is_err_and}
 use Rattle.buffers.specs.Buffers.{written}
 use Rattle.checks.specs.declared.refusals.Refusal.{Refusal}
 use Rattle.checks.specs.Lines.{Line, ◌when◌, Checked, Passed, Refused, tried, decided, ◌unless◌then◌}
-use Rattle.checks.specs.Answers.{number_of, checked_number, numbered, Says, gives, refuses, checked, count_says, Filled}
+use Rattle.checks.specs.Answers.{checked_number, numbered, Says, gives, refuses, checked, count_says, Filled}
 
 -- ---- answers
 

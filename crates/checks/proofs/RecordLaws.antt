@@ -7,7 +7,7 @@ use lib.ListN.{length}
 use lib.Dec.{ltb}
 use borrow.Author.Tests.{eqb-false, ltb-false, ne_eqb, le-ltb}
 use Rattle.words.specs.Words.{most_letters}
-use Rattle.checks.specs.Lines.{Line, ◌when◌, Passed, tried, record_lines, Accepted}
+use Rattle.checks.specs.Lines.{◌when◌, Passed, tried, record_lines, Accepted}
 use Rattle.checks.proofs.LineLaws.{unmet, all_pass}
 
 pub accepted : (w : List ℕ) → tried (record_lines w) ≡ Passed → Accepted w

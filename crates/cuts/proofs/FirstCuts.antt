@@ -1,17 +1,16 @@
 -- The first cut of what is left of a record, over plain lists: by its first letter, and by the test's verdict where that is no separator.
-use mathlib.Core.Path.{ap, ◌≡◌, refl, sym, ◌∙◌}
+use mathlib.Core.Path.{◌≡◌, refl}
 use mathlib.Core.List.{List, [], ◌∷◌}
 use Prim.Native.Nat.{ℕ, ◌<◌}
 use native.Mathlib.Omega.{arith}
 use lib.ListN.{length, get_or}
-use Rattle.std.specs.Prelude.{Option, None, Some}
+use Rattle.std.specs.Prelude.{None, Some}
 use Rattle.words.specs.Separated.{separator}
 use Rattle.theory.specs.Stretches.CutSteps.{CutBy, Uncut}
 use Rattle.theory.specs.Stretches.CutSteps.{separator-cut, separator-last, letter-cut, letter-last}
 use Rattle.extension.specs.declared.Extension.{Extension}
 use Rattle.extension.specs.Extension.{Verdict}
 use Rattle.extension.proofs.VerdictLaws.{Fails, fails-is, holds-is}
-use Rattle.cuts.specs.declared.Cut.{Cut}
 use Rattle.cuts.specs.Cutting.{FirstCut}
 
 -- ---- a separator

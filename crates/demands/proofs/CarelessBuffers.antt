@@ -7,7 +7,7 @@ use Rattle.words.specs.Separated.{has_mark, separated_icfl_ends, separated_break
 use Rattle.words.specs.Pairs.{separated_pairs}
 use Rattle.words.specs.Examples.{a}
 use Rattle.buffers.specs.Buffers.{cleared, written}
-use Rattle.checks.specs.Answers.{gives, refuses, Says}
+use Rattle.checks.specs.Answers.{gives, refuses}
 use Rattle.checks.specs.Lines.{tried, ◌unless◌then◌}
 use Rattle.extension.specs.Extension.{verdict_of, extension_lines}
 use Rattle.fates.specs.Entries.{entries_of_breaks}

@@ -13,7 +13,7 @@ use Rattle.theory.specs.Orders.LexLaws.{≤ₗ-not-≪, <ₗ-≤ₗ}
 use Rattle.theory.specs.Orders.SignLaws.{sign-is, sign-only}
 use Rattle.checks.specs.Answers.{Says, gives, refuses}
 use Rattle.checks.specs.Lines.{tried, ◌unless◌then◌}
-use Rattle.compare.specs.Compare.{sign_said, common_said, sign_said, common_said, compare_lines}
+use Rattle.compare.specs.Compare.{sign_said, common_said, compare_lines}
 use Rattle.demands.specs.Calls.{Calls}
 use Rattle.demands.specs.Demand1.{record_door}
 use Rattle.demands.specs.Demand3.{Inside, Demand3}

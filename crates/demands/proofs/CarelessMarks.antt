@@ -13,7 +13,7 @@ use Rattle.checks.specs.Answers.{gives, refuses, Says}
 use Rattle.checks.specs.Lines.{Line, tried, ◌unless◌then◌, work_line, mark_line, Refused}
 use Rattle.checks.proofs.LineLaws.{not-both}
 use Rattle.extension.specs.Extension.{verdict_of}
-use Rattle.compare.specs.Compare.{sign_said, sign_said, compare_lines, order_of}
+use Rattle.compare.specs.Compare.{sign_said, compare_lines, order_of}
 use Rattle.demands.specs.Calls.{Calls}
 use Rattle.demands.specs.Demand1.{record_door, Demand1}
 use Rattle.demands.specs.Demand2.{Demand2}

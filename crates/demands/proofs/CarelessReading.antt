@@ -7,7 +7,7 @@ use Rattle.words.specs.Examples.{a, b}
 use Rattle.theory.specs.Statements.{here, there}
 use Rattle.pairs.specs.PairedList.{are_faulty_pairs, factor_begin}
 use Rattle.checks.specs.Lines.{tried, ◌unless◌then◌}
-use Rattle.checks.specs.Answers.{checked_number, gives}
+use Rattle.checks.specs.Answers.{checked_number}
 use Rattle.reading.specs.Factor.{factor_lines}
 use Rattle.numbers.specs.declared.SummaryReply.{SummaryReply}
 use Rattle.summary.specs.Summary.{summary_lines, lengths_from, greatest, bands_of, summary_of}

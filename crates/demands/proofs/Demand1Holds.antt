@@ -17,7 +17,7 @@ use Rattle.icfl_breaks.specs.IcflBreaks.{breaks_lines, BreaksDone}
 use Rattle.batch.specs.Batch.{batch_of, batch_with, batch_lines, BatchDone}
 use Rattle.compare.specs.Compare.{compare_lines, order_of}
 use Rattle.reading.specs.Factor.{factor_lines}
-use Rattle.summary.specs.Summary.{summary_lines, summary_of}
+use Rattle.summary.specs.Summary.{summary_lines}
 use Rattle.numbers.specs.Numbers.{empty_reply, summary_reply}
 use Rattle.numbers.specs.declared.SummaryReply.{SummaryReply}
 use Rattle.demands.specs.Calls.{Calls}

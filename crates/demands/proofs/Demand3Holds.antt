@@ -15,7 +15,7 @@ use Rattle.theory.proofs.Stretches.SeparatedDemand3.{separated-demand-3}
 use Rattle.checks.specs.Answers.{gives, Says}
 use Rattle.checks.proofs.LineLaws.{both-pass, filled-front}
 use Rattle.icfl.proofs.IcflCases.{pairs-front}
-use Rattle.compare.specs.Compare.{sign_said, common_said, sign_said, common_said, compare_lines, order_of}
+use Rattle.compare.specs.Compare.{sign_said, common_said, compare_lines, order_of}
 use Rattle.compare.proofs.ComparisonLaws.{Within, within-passes}
 use Rattle.demands.specs.Calls.{Calls}
 use Rattle.demands.specs.Demand1.{Doorway}

@@ -30,5 +30,3 @@ pub mod CarelessRuns
 pub mod CarelessPairs
 pub mod CarelessReading
 pub mod CarelessBuffers
-
-

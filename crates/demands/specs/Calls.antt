@@ -1,6 +1,6 @@
 -- DEFINITIONS. The calls that the customer's demands speak of (Calls): the library's, by their promises, and the exported functions, by the numbers that they
 -- give and what these stand for. Both are those behind the record's lines; nothing else here knows which lines stand at a door.
-use Rattle.std.specs.Prelude.{◌≡◌, true, false, List, map, ℕ, ℤ, eqb, [], ◌∷◌, Option, None, Some}
+use Rattle.std.specs.Prelude.{◌≡◌, true, false, List, map, ℕ, ℤ, eqb, Option, None, Some}
 use Rattle.std.proofs.Math.Seq.{slice}
 use Rattle.extension.specs.declared.Extension.{Extension}
 use Rattle.checks.specs.Lines.{Door, decided, record_lines}

@@ -4,7 +4,7 @@ use Rattle.std.specs.Prelude.{◌≡◌, ℕ, ◌*◌, ◌<◌, length, take, dr
 use mathlib.Core.List.{List, [], ◌∷◌, ◌++◌, Memᴰ}
 use Rattle.words.specs.Words.{most_letters}
 use Rattle.checks.specs.Lines.{Line, Door, tried, record_lines, Checked, Refused}
-use Rattle.checks.specs.Answers.{numbered, checked, Says, gives}
+use Rattle.checks.specs.Answers.{numbered, checked, Says}
 use Rattle.extension.specs.Extension.{extension_lines}
 use Rattle.icfl.specs.Icfl.{icfl_lines}
 use Rattle.icfl_breaks.specs.IcflBreaks.{breaks_lines}
@@ -16,7 +16,7 @@ use Rattle.compare.specs.Compare.{compare_lines}
 use Rattle.reading.specs.Factor.{factor_lines}
 use Rattle.numbers.specs.declared.SummaryReply.{SummaryReply}
 use Rattle.summary.specs.Summary.{summary_lines}
-use Rattle.numbers.specs.Numbers.{empty_reply, summary_reply}
+use Rattle.numbers.specs.Numbers.{empty_reply}
 use Rattle.extension.specs.declared.Extension.{Extension}
 use Rattle.demands.specs.Calls.{Calls}
 

@@ -18,7 +18,7 @@ use Rattle.conditions.specs.Conditions.{most_records}
 use Rattle.pairs.specs.PairedList.{factor_begin}
 use Rattle.checks.specs.Lines.{Line, tried, decided, ◌unless◌then◌, Checked, Passed, Refused}
 use Rattle.checks.specs.Answers.{checked_number, Says, gives, refuses, checked}
-use Rattle.checks.proofs.LineLaws.{both-passed, every_number, every-joined, reading, said, gave, zero-passes, not-both}
+use Rattle.checks.proofs.LineLaws.{both-passed, every_number, every-joined, reading, said, zero-passes, not-both}
 use Rattle.extension.specs.Extension.{verdict_as, verdict_of, extension_lines}
 use Rattle.icfl.specs.Icfl.{icfl_lines}
 use Rattle.icfl_breaks.specs.IcflBreaks.{breaks_lines}

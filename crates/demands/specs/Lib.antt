@@ -17,5 +17,3 @@ pub mod ExportedMeets
 pub mod PairsHold
 pub mod GivenExists
 pub mod OneCall
-
-

@@ -1,17 +1,13 @@
 -- Doorways that let in just the records of 1 to so many bytes (Sound), and calls whose answers meet the promises of the calls behind a door (Meets). The
 -- record's lines are such a doorway (record-door), and the calls behind a door are such calls (behind-meets) and answer (behind-total); the exported
 -- functions: ExportedMeets.
-use Rattle.std.specs.Prelude.{◌≡◌, refl, Bool, true, false, List, [], ◌∷◌, ◌++◌, ℕ, ◌≤◌, length, ltb, ℤ, Option}
+use Rattle.std.specs.Prelude.{◌≡◌, refl, true, List, ◌++◌, ℕ, ◌≤◌, length, ltb, ℤ, Option}
 use Rattle.std.proofs.Common.{ap, ◌∙◌}
-use Rattle.words.specs.Words.{is_inverse_lyndon}
-use Rattle.words.specs.Factorizations.{failing_length, prefix_length, border_length}
 use Rattle.words.specs.Pairs.{ends_of}
-use Rattle.checks.specs.Lines.{Line, ◌unless◌then◌, Door, tried, decided, Accepted, Checked, Passed, Refused}
+use Rattle.checks.specs.Lines.{Line, ◌unless◌then◌, Door, tried, Accepted, Passed}
 use Rattle.checks.specs.Answers.{Says, gives, refuses}
 use Rattle.checks.proofs.LineLaws.{every_number, among, reading}
 use Rattle.checks.proofs.RecordLaws.{accepted, record-passes}
-use Rattle.extension.specs.Extension.{verdict_as, verdict_of, extension_lines}
-use Rattle.icfl.specs.Icfl.{icfl_answer}
 use Rattle.icfl.proofs.IcflCases.{NoFour}
 use Rattle.numbers.specs.declared.SummaryReply.{SummaryReply}
 use Rattle.summary.specs.Summary.{summary_of, summary_lines, Summarized}

@@ -19,7 +19,6 @@ use Rattle.theory.specs.Scan.ScannedBorders.{table-set, scanned-border, Walk, wa
 use Rattle.scan.specs.declared.Scan.{Scan}
 use Rattle.scan.specs.State.{start_state, step_state}
 use Rattle.scan.proofs.StateLaws.{stepped}
-use Rattle.extension.specs.declared.Extension.{Extension}
 use Rattle.extension.specs.Extension.{verdict_of, TestRoom, Scanning, Ready}
 
 -- ---- the scan

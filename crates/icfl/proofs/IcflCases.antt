@@ -10,7 +10,6 @@ use borrow.Author.Tests.{not-true}
 use lib.ListN.{length, take}
 use lib.Seq.{length-slice}
 use lib.Dec.{eqb}
-use Rattle.words.specs.Words.{most_letters}
 use Rattle.words.specs.Separated.{separated_icfl_ends}
 use Rattle.words.specs.Pairs.{separated_pairs}
 use Rattle.theory.proofs.Stretches.RecordPairs.{pairs-entries}

@@ -1,7 +1,7 @@
 -- Both lists filled or refused by either 4 (both-refused, both-written); the promise of the piece cut with its breaks in each of its cases: refused at its door
 -- (breaks-at-door); past it (breaks-past-door) by 3 (breaks-work-refused), or tried by 4 (breaks-tried).
 use mathlib.Core.Path.{◌≡◌, refl, ◌∙◌}
-use mathlib.Core.List.{List, [], ◌∷◌}
+use mathlib.Core.List.{List, []}
 use Prim.Native.Nat.{ℕ, ◌*◌}
 use lib.ListN.{length}
 use Rattle.words.specs.Separated.{separated_icfl_ends, separated_breaks}

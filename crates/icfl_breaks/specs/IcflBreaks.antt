@@ -1,5 +1,5 @@
 -- DEFINITIONS. What the piece cut with its breaks answers, writes and leaves in the work buffer (BreaksDone), request 102.
-use Rattle.std.specs.Prelude.{◌≡◌, Result, List, [], ◌∷◌, ◌++◌, ℕ, ◌*◌, ◌<◌, ◌≤◌, length}
+use Rattle.std.specs.Prelude.{◌≡◌, Result, List, [], ◌∷◌, ◌++◌, ℕ, ◌*◌, ◌<◌, length}
 use Rattle.std.proofs.Math.Seq.{slice}
 use Rattle.words.specs.Separated.{separated_icfl_ends, separated_breaks}
 use Rattle.words.specs.Pairs.{separated_pairs}

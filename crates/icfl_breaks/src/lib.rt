@@ -46,7 +46,7 @@ pub fn cut_with_breaks(
     breaks: &mut [u16],
 ) -> Result<Counts, Refusal>
     ensures { BreaksDone [] admitted.entry.letters.now work.old pairs.old breaks.old (breaks_says result)
-                work.new pairs.new breaks.new }
+        work.new pairs.new breaks.new }
 {
     let word = admitted.letters;
     let n = word.len();
@@ -68,7 +68,7 @@ pub fn icfl_with_breaks(
     breaks: &mut [u16],
 ) -> Result<Counts, Refusal>
     ensures { BreaksDone (record_lines word.now) word.now work.old pairs.old breaks.old (breaks_says result)
-                work.new pairs.new breaks.new }
+        work.new pairs.new breaks.new }
 {
     let admitted = Record::admit(word)?;
     cut_with_breaks(admitted, work, pairs, breaks)

@@ -1,5 +1,5 @@
 -- DEFINITIONS. The answers of the library's calls as numbers: the refusal's number, 0 for a result, and beside it the result's numbers, 0 with a refusal.
-use Rattle.std.specs.Prelude.{◌≡◌, Option, None, Some, List, [], map, ℕ, ◌≤◌, ◌<◌, length, get_or, ℤ, pos}
+use Rattle.std.specs.Prelude.{◌≡◌, Option, None, Some, List, map, ℕ, ◌≤◌, ◌<◌, length, get_or, ℤ, pos}
 use Rattle.conditions.specs.Conditions.{most_records}
 use Rattle.checks.specs.Answers.{checked_number, Says, gives, refuses, checked, values_or}
 use Rattle.extension.specs.declared.Extension.{Extension}

@@ -2,13 +2,11 @@
 -- request 101 says (LatestLongest). No other two numbers are so (latest-only).
 use mathlib.Core.Path.{◌≡◌, refl, ap, sym}
 use mathlib.Core.Logic.{⊎_elim}
-use mathlib.Core.Bool.{true}
 use mathlib.Core.List.{List, [], ◌∷◌, ◌++◌}
 use Prim.Native.Nat.{ℕ, ◌+◌, ◌-◌, ◌≤◌, ◌<◌}
 use native.Mathlib.Decide.{ℕ_discrete}
 use native.Mathlib.Omega.{arith}
 use lib.ListN.{length}
-use lib.Dec.{ltb}
 use Rattle.theory.specs.Orders.Decisions.{neither-less}
 use Rattle.words.specs.Pairs.{ends_of}
 use Rattle.theory.specs.Statements.{Adjacent, here, there}

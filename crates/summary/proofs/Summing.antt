@@ -1,7 +1,7 @@
 -- The tally of parts over plain lists: what it has of the parts before a, taken together with the parts that follow, is the definition's value for the
 -- whole list (specs/Tallies). LongestSoFar, Banded and SummedUpTo each have a law for the start, for one more part, of length e - a, and for the end;
 -- at the end of this file they are those of the tally itself.
-use mathlib.Core.Path.{◌≡◌, ap, sym, ◌∙◌}
+use mathlib.Core.Path.{◌≡◌, sym, ◌∙◌}
 use mathlib.Core.Logic.{◌⊎◌, inl, inr}
 use mathlib.Core.List.{List, [], ◌∷◌}
 use Prim.Native.Nat.{ℕ, suc, ◌+◌, ◌-◌, ◌≤◌, ◌<◌, max}
@@ -12,7 +12,6 @@ use lib.ListN.{length, drop, get_or, set, length-set, drop_of_length-le}
 use lib.Seq.{drop-cons, get_or-set_same, get_or-set_other, ext_get_or}
 use Rattle.summary.specs.Summary.{lengths_from, greatest, start_of, bit_length_of, count_of, bands_of, summary_of, Summable}
 use Rattle.summary.specs.Tallies.{longest_of, LongestSoFar, bands_from, Banded, SummedUpTo, Tallied, NextEnd}
-use Rattle.summary.specs.declared.Summary.{Summary}
 use Rattle.summary.specs.declared.Tally.{Tally}
 use Rattle.summary.proofs.BitLengths.{bit-length-some, bit-length-most}
 use Rattle.summary.proofs.SummaryLaws.{start-here, start-later, count-here, count-other, count-above, count-greatest, count_most}

@@ -3,7 +3,7 @@
 
 mod sink; // Sink, Count, List: whether the runs are counted or listed
 
-ghost use Rattle.std.specs.Prelude.{◌≡◌, ◌<◌, length, true, false};
+ghost use Rattle.std.specs.Prelude.{◌≡◌, ◌<◌, length};
 ghost use Rattle.words.specs.Runs.{separated_runs};
 ghost use Rattle.theory.specs.Repetitions.Found.{found_at};
 ghost use Rattle.common.specs.Orders.{most_byte};

@@ -1,12 +1,10 @@
 -- The reader's own lines are tried past those at the door; past them all the part's places stand in the list.
-use mathlib.Core.Path.{◌≡◌, refl, sym, ◌∙◌}
-use mathlib.Core.List.{◌++◌}
+use mathlib.Core.Path.{◌≡◌, refl, sym}
 use Rattle.words.specs.Pairs.{ends_of}
 use Rattle.checks.specs.Lines.{tried, Passed}
 use Rattle.checks.proofs.LineLaws.{passed-up, refused, refused-first, passed_first, both-pass}
 use Rattle.reading.specs.Factor.{factor_lines}
 use Rattle.reading.proofs.FactorLaws.{Placed, placed}
-use Rattle.exports.specs.Exports.{export_door}
 use Rattle.exports.proofs.places_of.Goals as goal
 use Rattle.exports.proofs.places_of.Goals.{In_ok-check_part}
 

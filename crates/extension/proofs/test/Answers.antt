@@ -1,13 +1,13 @@
 -- Lines 3 and 9, the verdict, then the entries that the scan used are cleared.
 use mathlib.Core.Path.{◌≡◌, ap, sym, ◌∙◌}
-use mathlib.Core.List.{List, [], ◌∷◌}
+use mathlib.Core.List.{List, []}
 use Prim.Native.Nat.{ℕ}
 use native.Mathlib.Omega.{arith}
 use lib.ListN.{length}
 use Rattle.std.specs.Prelude.{Option}
 use Rattle.buffers.specs.Buffers.{cleared}
 use Rattle.buffers.proofs.BufferLaws.{cleared-kept}
-use Rattle.checks.specs.Lines.{tried, work_line, Accepted, Passed}
+use Rattle.checks.specs.Lines.{tried, Passed}
 use Rattle.checks.specs.Answers.{gives, refuses}
 use Rattle.checks.proofs.LineLaws.{passed-up, refused, refused-first, passed_first, both-pass}
 use Rattle.checks.proofs.RecordLaws.{enough}

@@ -1,9 +1,8 @@
 -- Line 3; the ends are found in the work buffer; then line 4 is tried and the pairs are written; either way the buffer is cleared.
-use mathlib.Core.Path.{◌≡◌, sym}
+use mathlib.Core.Path.{sym}
 use Prim.Native.Nat.{◌*◌, ◌≤◌}
 use native.Mathlib.Omega.{arith}
 use lib.ListN.{length}
-use Rattle.words.specs.Words.{most_letters}
 use Rattle.checks.proofs.LineLaws.{passed-up}
 use Rattle.cuts.specs.Cutting.{CutRoom}
 use Rattle.icfl.proofs.IcflCases.{cut-room, ends-part, work-refused, pairs-tried}

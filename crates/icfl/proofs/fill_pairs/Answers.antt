@@ -1,6 +1,5 @@
 -- There are no more factors than letters; past line 4 their pairs have room.
-use mathlib.Core.Path.{◌≡◌, ap, sym}
-use Prim.Native.Nat.{◌≤◌}
+use mathlib.Core.Path.{ap, sym}
 use native.Mathlib.Omega.{arith}
 use lib.ListN.{length}
 use Rattle.theory.specs.Places.EndsRise.{rises-few}

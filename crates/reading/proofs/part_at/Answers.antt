@@ -1,5 +1,5 @@
 -- Past its lines a call has its ends in order and inside the record.
-use mathlib.Core.Path.{◌≡◌, sym}
+use mathlib.Core.Path.{sym}
 use native.Mathlib.Omega.{arith}
 use Rattle.words.specs.Pairs.{ends_of}
 use Rattle.buffers.proofs.PartLaws.{part-is}

@@ -1,5 +1,5 @@
 -- Line 1, then line 2; past both the record is accepted.
-use mathlib.Core.Path.{◌≡◌, refl, sym}
+use mathlib.Core.Path.{◌≡◌, sym}
 use Rattle.checks.specs.Lines.{tried, record_lines, Passed}
 use Rattle.checks.proofs.LineLaws.{passed-up, refused-first, passed_first}
 use Rattle.checks.proofs.RecordLaws.{accepted}
