@@ -49,7 +49,8 @@ map-set {B = B} f (x ∷ xs) (suc i) y = ap (λ (zs : List B). f x ∷ zs) (map-
 placed-next : (answers : List (Says ℕ)) (a : Result ℕ Refusal) (places : List (Result ℕ Refusal)) {i : ℕ} → says_of places ≡ places_of answers
     → length answers ≡ i → i < most_records → says_of (set places i a) ≡ places_of (answers ++ count_says a ∷ [])
 placed-next answers a places {i} e n l =
-    let m : most_records - length answers ≡ suc (most_records - length (answers ++ count_says a ∷ [])) = rw (length-append answers (count_says a ∷ [])) (omega arith) in
+    let m : most_records - length answers ≡ suc (most_records - length (answers ++ count_says a ∷ [])) =
+    rw (length-append answers (count_says a ∷ [])) (omega arith) in
     let none : Says ℕ = gives 0 in
     let rest = replicate (most_records - length (answers ++ count_says a ∷ [])) none in
     map-set count_says places i a
@@ -59,13 +60,15 @@ placed-next answers a places {i} e n l =
     ∙ sym (append_assoc answers (count_says a ∷ []) rest)
 
 -- an answer uses no more entries than the buffer has
-used-fits : {door : List Line} {w work left : List ℕ} {said : Says ℕ} {work₁ left₁ : List ℕ} → IcflDone door w work left said work₁ left₁ → used_entries said ≤ length left₁
+used-fits : {door : List Line} {w work left : List ℕ} {said : Says ℕ} {work₁ left₁ : List ℕ} → IcflDone door w work left said work₁ left₁
+    → used_entries said ≤ length left₁
 used-fits {w} {left = left} {said = gives n} d =
     let f = filled-counted (icfl-filled d) in
     omega (arith, f.1, ap length f.2, length-append (separated_pairs w) (drop (length (separated_pairs w)) left), pairs-entries w)
 used-fits {said = refuses number} d = omega arith
 
-pub used-few : {door : List Line} {w work left : List ℕ} {said : Says ℕ} {work₁ left₁ : List ℕ} → (tried door ≡ Passed → Accepted w) → IcflDone door w work left said work₁ left₁
+pub used-few : {door : List Line} {w work left : List ℕ} {said : Says ℕ} {work₁ left₁ : List ℕ} → (tried door ≡ Passed → Accepted w)
+    → IcflDone door w work left said work₁ left₁
     → used_entries said ≤ 2 * most_letters
 used-few {door} {w} {work} {left} {said = gives n} g d =
     let f = filled-counted (icfl-filled d) in
@@ -132,7 +135,8 @@ module _ {door : Door} {bytes es work₀ pairs₀ work pairs : List ℕ} {places
       count = length-append g.answers (count_says a ∷ []) ∙ omega (arith, g.count);
       placed = placed-next g.answers a places g.placed g.count (omega (arith, g.few));
       on = rw (d.answer, d.result, d.worked)
-          (ap (λ (t : List ℕ). cut_records door (record { answers = g.answers; work = work; pairs = pairs; used = used }) (records_from from t bytes)) (sym next) ∙ g.on);
+          (ap (λ (t : List ℕ). cut_records door (record { answers = g.answers; work = work; pairs = pairs; used = used }) (records_from from t bytes))
+          (sym next) ∙ g.on);
       climbs = climbs-tail climbs-on;
       few = g.few;
       inside = omega arith;
@@ -142,6 +146,8 @@ module _ {door : Door} {bytes es work₀ pairs₀ work pairs : List ℕ} {places
     -- the same, as the code lends the record and what is left of the result buffer
     pub lent-on : (a : Result ℕ Refusal) {n : ℕ} {work₁ left₁ : List ℕ}
         → (let w = part from (get_or es i 0) bytes in IcflDone (door w) w work (rest used pairs) (count_says a) work₁ left₁) → n ≡ used_entries (count_says a)
-        → Cutting door bytes es work₀ pairs₀ work₁ (take used pairs ++ (left₁ ++ drop (length pairs - used) (drop used pairs))) (set places i a) (get_or es i 0) (used + n)
+       
+        → Cutting door bytes es work₀ pairs₀ work₁ (take used pairs ++ (left₁ ++ drop (length pairs - used) (drop used pairs)))
+        (set places i a) (get_or es i 0) (used + n)
         (i + 1)
     lent-on a {left₁ = left₁} d z = rw (rest_back used pairs left₁, z) (cutting-on a (rw (part-is from (get_or es i 0) bytes, rest-is used pairs) at d))

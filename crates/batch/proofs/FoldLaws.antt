@@ -1,5 +1,5 @@
--- The fold over the records: the answers it adds (added, batch-answers), of which each is a single call's (every-added); and what it leaves of both buffers, said
--- of all records at once (folded-pairs, folded-work).
+-- The fold over the records: the answers it adds (added, batch-answers), of which each is a single call's (every-added); and what it leaves of both buffers,
+-- said of all records at once (folded-pairs, folded-work).
 use mathlib.Core.Path.{◌≡◌, refl, ap, sym, ◌∙◌}
 use mathlib.Core.Bool.{Bool, true, false}
 use mathlib.Core.List.{List, [], ◌∷◌, ◌++◌, append_assoc, append-nil}
@@ -37,7 +37,8 @@ unfolding added cut_records cut_record
 answers-split door p [] = sym (append-nil p.answers)
 answers-split door p (w ∷ ws) = answers-split door (cut_record door p w) ws ∙ append_assoc p.answers _ (added door (cut_record door p w) ws)
 
-pub batch-answers : (door : Door) (bytes es work pairs : List ℕ) → (batch_of door bytes es work pairs).answers ≡ added door (uncut work pairs) (records_from 0 es bytes)
+pub batch-answers : (door : Door) (bytes es work pairs : List ℕ)
+    → (batch_of door bytes es work pairs).answers ≡ added door (uncut work pairs) (records_from 0 es bytes)
 batch-answers door bytes es work pairs = answers-split door (uncut work pairs) (records_from 0 es bytes)
 
 added-length : (door : Door) (p : Progress) (ws : List (List ℕ)) → length (added door p ws) ≡ length ws

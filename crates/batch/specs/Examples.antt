@@ -1,5 +1,5 @@
--- THEOREM examples. The definitions compute: an empty record between two others, ends counted in each record, an untouched rest of both buffers; a record refused
--- by 4 before a shorter one that fits; and which lists of record ends are faulty.
+-- THEOREM examples. The definitions compute: an empty record between two others, ends counted in each record, an untouched rest of both buffers; a record
+-- refused by 4 before a shorter one that fits; and which lists of record ends are faulty.
 use Rattle.std.specs.Prelude.{◌≡◌, refl, true, false, [], ◌∷◌, replicate}
 use Rattle.words.specs.Separated.{separated_icfl_ends}
 use Rattle.words.specs.Pairs.{separated_pairs}

@@ -7,7 +7,7 @@ ghost use Rattle.breaks.specs.Gathering.{EndsGathered, CutFound};
 
 /// Where the ends and the notes of the cuts stand in the work buffer, for a word of n letters: the ends from entry
 /// `first` to entry n, the notes, two entries a cut, from there on. Those cuts that lie beside no separator, `breaks`
-/// in number, are the breaks.
+/// in number, are the breaks. Places and no slices, since the buffer that is lent holds both lists and there is no heap.
 #[derive(Drop)]
 pub struct Found {
     pub first: usize,

@@ -10,4 +10,5 @@ cfl_in_lines w entries = result_line entries (length (separated_cfl_in_ends w)) 
 
 -- the call's promise, by the lines at its door: its answer, and the result buffer whole
 abbrev pub CflInDone : List Line → List ℕ → List ℕ → Says ℕ → List ℕ → Type 0
-CflInDone door w buffer said buffer' = Filled (door ++ cfl_in_lines w (length buffer)) (length (separated_cfl_in_ends w)) (separated_cfl_in_ends w) buffer said buffer'
+CflInDone door w buffer said buffer' =
+    Filled (door ++ cfl_in_lines w (length buffer)) (length (separated_cfl_in_ends w)) (separated_cfl_in_ends w) buffer said buffer'

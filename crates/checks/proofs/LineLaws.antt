@@ -1,8 +1,8 @@
 -- The lines of the table, whatever they are: an answer that is refused (refused) or passed up by `?` (passed-up), a check says one of the two (not-both), lines
 -- that are tried in two parts (refused-first, passed_first), at a call's door and past it (refused-at-door, past-door, both-pass, both-passed), what it
--- tells that all pass (unmet, all_pass), what an answer says (reading, said, gave, count-given), which numbers can come (first-listed, zero-passes, numbered_is, unless-but), and
--- calls that fill a result buffer (filled-refused, filled-done; at a door filled-at-door, filled-past-door; and back: filled-counted, filled-entries,
--- filled-front, filled-number).
+-- tells that all pass (unmet, all_pass), what an answer says (reading, said, gave, count-given), which numbers can come (first-listed, zero-passes,
+-- numbered_is, unless-but), and calls that fill a result buffer (filled-refused, filled-done; at a door filled-at-door, filled-past-door; and back:
+-- filled-counted, filled-entries, filled-front, filled-number).
 use mathlib.Core.Path.{◌≡◌, refl, ap, sym, ◌∙◌}
 use mathlib.Core.Bool.{Bool, true, false, not, ◌||◌, ◌&&◌, true≢false}
 use mathlib.Core.Logic.{◌⊎◌, inl, inr}
@@ -145,7 +145,8 @@ every-weaker test other h (number when met ∷ lines) e =
     rw (h number u.0) (every-weaker test other h lines u.1)
 
 -- so it holds for the number of the line that refuses
-pub number-tested : (test : ℕ → Bool) (lines : List Line) → every_number test lines ≡ true → (tried lines ≡ Passed) ⊎ (test (checked_number (tried lines)) ≡ true)
+pub number-tested : (test : ℕ → Bool) (lines : List Line) → every_number test lines ≡ true
+    → (tried lines ≡ Passed) ⊎ (test (checked_number (tried lines)) ≡ true)
 unfolding tried
 number-tested test [] e = inl refl
 number-tested test (number when true ∷ lines) e = inr (both_true (test number) (every_number test lines) e).0
@@ -244,7 +245,8 @@ filled-done p z e = record { answer = rw p (ap (λ (t : ℕ). gives t) z); resul
 pub filled-at-door : (door own : List Line) (n : ℕ) (vs buffer : List ℕ) {m : ℕ} → Refused m ≡ tried door → Filled (door ++ own) n vs buffer (refuses m) buffer
 filled-at-door door own n vs buffer e = filled-refused n vs buffer (refused-first door own e)
 
-pub filled-past-door : (door : List Line) {own : List Line} {n : ℕ} {vs buffer buffer' : List ℕ} {s : Says ℕ} → tried door ≡ Passed → Filled own n vs buffer s buffer'
+pub filled-past-door : (door : List Line) {own : List Line} {n : ℕ} {vs buffer buffer' : List ℕ} {s : Says ℕ} → tried door ≡ Passed
+    → Filled own n vs buffer s buffer'
     → Filled (door ++ own) n vs buffer s buffer'
 filled-past-door door {own} {n} {vs} {buffer} p f = record {
   answer = f.answer ∙ past-door door own (gives n) (λ (i : ℕ). refuses i) p;

@@ -4,7 +4,18 @@ use Rattle.std.specs.Prelude.{◌≡◌, List, ℕ, zero, suc, Result, Ok, Err}
 use Rattle.buffers.specs.Buffers.{written}
 use Rattle.checks.specs.Lines.{Line, Checked, Passed, Refused, decided, ◌unless◌then◌}
 use Rattle.checks.specs.declared.refusals.Refusal.{Refusal}
-use Rattle.checks.specs.declared.refusals.Refusal.TheVariants.{Empty, TooLong, WorkTooShort, ResultTooShort, BadRange, BadStart, FaultyPairs, NoSuchPart, Marked, FaultyRecordEnds}
+use Rattle.checks.specs.declared.refusals.Refusal.TheVariants.{
+  Empty,
+  TooLong,
+  WorkTooShort,
+  ResultTooShort,
+  BadRange,
+  BadStart,
+  FaultyPairs,
+  NoSuchPart,
+  Marked,
+  FaultyRecordEnds,
+}
 
 -- the number that the table gives a line
 abbrev pub number_of : Refusal → ℕ
@@ -57,8 +68,8 @@ says_by values (Err refusal) = refuses (number_of refusal)
 abbrev pub count_says : Result ℕ Refusal → Says ℕ
 count_says r = says_by (λ n. n) r
 
--- what a call says that fills a result buffer with vs and answers n, and what it leaves there: "An accepted cut or start table writes exactly the answer's entries, from entry 0"; "Result buffers
--- are untouched by a refusal."
+-- what a call says that fills a result buffer with vs and answers n, and what it leaves there: "An accepted cut or start table writes exactly the answer's
+-- entries, from entry 0"; "Result buffers are untouched by a refusal."
 pub record Filled (lines : List Line) (n : ℕ) (vs buffer : List ℕ) (said : Says ℕ) (buffer' : List ℕ) : Type 0 where
   pub answer : said ≡ gives n unless lines then refuses
   pub result : buffer' ≡ written vs buffer unless lines then (λ number. buffer)

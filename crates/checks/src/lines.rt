@@ -1,4 +1,5 @@
-//! The lines of the table that not every call tries.
+//! The lines of the table that not every call tries, a function for each. Those for work and for the result differ in the
+//! line alone; as one function its callers would choose the number.
 ghost use Rattle.std.specs.Prelude.{◌≡◌, [], ◌∷◌, length};
 ghost use Rattle.words.specs.Pairs.{ends_of};
 ghost use Rattle.checks.specs.Lines.{tried, work_line, result_line, range_line, start_line, pairs_line, number_line, mark_line, record_ends_line};

@@ -4,4 +4,4 @@
 mod suffixes; // compare_suffixes: the call; compare_within: the same in a record that was accepted
 
 pub use letters::Order;
-pub use suffixes::{compare_suffixes, compare_within};
+pub use suffixes::{Starts, compare_suffixes, compare_within};

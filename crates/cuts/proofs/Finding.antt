@@ -90,7 +90,8 @@ find-fits w work₀ work n from cuts breaks r g = rw (rest-is from w) (record {
   entries = rw length-drop (omega (arith, r.entries, g.long));
 })
 
-module _ (w work₀ work work₁ : List ℕ) (n from cuts breaks : ℕ) (g : Finding w work₀ work n from cuts breaks) (a : Option Cut) (f : FirstCut (rest from w) work a work₁) where
+module _ (w work₀ work work₁ : List ℕ) (n from cuts breaks : ℕ) (g : Finding w work₀ work n from cuts breaks) (a : Option Cut)
+    (f : FirstCut (rest from w) work a work₁) where
   first : FirstCut (drop from w) work a work₁
   first = rw (rest-is from w) at f
 
@@ -127,7 +128,8 @@ module _ (w work₀ work work₁ : List ℕ) (n from cuts breaks : ℕ) (g : Fin
     after = set (set work₁ (n + 2 * cuts) (from + p)) (n + 2 * cuts + 1) r
 
     -- with the number of breaks after it
-    module _ (m : 3 * length w ≤ length work₁) (y : length work₁ ≡ length work) (breaks' : ℕ) (t : breaks' ≡ length (breaks_among w (g.found ++ told ∷ []))) where
+    module _ (m : 3 * length w ≤ length work₁) (y : length work₁ ≡ length work) (breaks' : ℕ)
+        (t : breaks' ≡ length (breaks_among w (g.found ++ told ∷ []))) where
       pub find-on : Finding w work₀ after n (from + p) (cuts + 1) breaks'
       unfolding notes_of
       find-on = record {

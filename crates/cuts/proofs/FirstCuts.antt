@@ -36,7 +36,8 @@ module _ (w work work' : List ℕ) (h : get_or w 0 0 < separator) where
   pub uncut-letter : Verdict w work None work' → FirstCut w work None work'
   uncut-letter v = record { told = letter-last w h (holds-is w v.answer); kept = v.kept }
 
-  pub cut-letter : {x : Extension} → 0 < length w → Verdict w work (Some x) work' → FirstCut w work (Some (record { prefix = x.prefix; border = x.border })) work'
+  pub cut-letter : {x : Extension} → 0 < length w → Verdict w work (Some x) work'
+      → FirstCut w work (Some (record { prefix = x.prefix; border = x.border })) work'
   cut-letter {x} s v =
       let f : Fails w x.failing x.prefix x.border = fails-is w s v.answer in
       record { told = rw (f.prefix, f.border) (letter-cut w s h f.not); kept = v.kept }

@@ -42,7 +42,8 @@ module _ (w work : List ℕ) (count : ℕ) (x : Noted w work count) where
   few-noted = omega (arith, x.number, cuts-few x.walk)
 
   entry_of : (j : ℕ) → j < 2 * count → get_or work (length w + j) 0 ≡ get_or (notes_of x.cuts) j 0
-  entry_of j l = sym (get_or-drop (length w) work j 0) ∙ (sym (get_or-take (2 * count) (drop (length w) work) j 0 l) ∙ ap (λ (t : List ℕ). get_or t j 0) x.notes)
+  entry_of j l = sym (get_or-drop (length w) work j 0)
+      ∙ (sym (get_or-take (2 * count) (drop (length w) work) j 0 l) ∙ ap (λ (t : List ℕ). get_or t j 0) x.notes)
 
   module _ (k : ℕ) (l : k < count) where
     pub noted-cut : CutAt w x.cuts k

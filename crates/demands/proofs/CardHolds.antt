@@ -1,5 +1,5 @@
--- THEOREM card-answered: the answers for the records of a card are those of single calls, one after another (request 105). It holds of all calls that answer and
--- whose answers meet the promises behind a door that has no line of number 4.
+-- THEOREM card-answered: the answers for the records of a card are those of single calls, one after another (request 105). It holds of all calls that answer
+-- and whose answers meet the promises behind a door that has no line of number 4.
 use Rattle.std.specs.Prelude.{◌≡◌, ℕ, ◌+◌, ◌≤◌, take, drop}
 use Rattle.std.proofs.Common.{ap, sym, ◌∙◌, arith, drop_at}
 use mathlib.Core.List.{List, [], ◌∷◌, ◌++◌, append_assoc, Memᴰ}

@@ -29,7 +29,8 @@ pub record CutsAt (f : List ℕ → List ℕ) (w work pairs : List ℕ) (r : Say
   pub worked : work' ≡ cleared (3 * length w) work unless lines_at f w (length work) (length pairs) then work_after (3 * length w) work
 
 -- demand 2 shuts out every one whose pairs are not the factorization's
-pub other-pairs : (f : List ℕ → List ℕ) (w : List ℕ) → 1 ≤ length w → length w ≤ most_letters → length (f w) ≡ 2 * length (ends_of (f w)) → ¬ (f w ≡ separated_pairs w)
+pub other-pairs : (f : List ℕ → List ℕ) (w : List ℕ) → 1 ≤ length w → length w ≤ most_letters → length (f w) ≡ 2 * length (ends_of (f w))
+    → ¬ (f w ≡ separated_pairs w)
     → ¬ Demand2 (cutter (CutsAt f)) w
 other-pairs f w s l even n d =
     let work : List ℕ = replicate (3 * length w) 0 in

@@ -31,11 +31,13 @@ pub record ReasonsBy (f : List ℕ → List Break) (end_lines : List ℕ → (wo
   pub answer : r ≡ gives (length (separated_icfl_ends w), length (f w)) unless reasoned_lines f w (length work) (length pairs) (length breaks)
       then refuses
   pub pairs-are : pairs' ≡ written (separated_pairs w) pairs unless end_lines w (length work) (length pairs) (length breaks) then (λ number. pairs)
-  pub breaks-are : breaks' ≡ written (entries_of_breaks (f w)) breaks unless reasoned_lines f w (length work) (length pairs) (length breaks) then (λ number. breaks)
+  pub breaks-are : breaks' ≡ written (entries_of_breaks (f w)) breaks
+      unless reasoned_lines f w (length work) (length pairs) (length breaks) then (λ number. breaks)
   pub worked : work' ≡ cleared (3 * length w) work unless reasoned_lines f w (length work) (length pairs) (length breaks) then work_after (3 * length w) work
 
 -- "A short buffer for them is met by refusal 4, once the ends have been found to fit": one that has written the ends by then
-pub ends-before-breaks-fit : ¬ Demand1 record_door (reasoner (ReasonsBy separated_breaks (λ w work pairs breaks. record_door.door w ++ icfl_lines w work pairs)))
+pub ends-before-breaks-fit : ¬ Demand1 record_door (reasoner (ReasonsBy separated_breaks
+    (λ w work pairs breaks. record_door.door w ++ icfl_lines w work pairs)))
 unfolding tried separated_icfl_ends separated_pairs separated_breaks
 ends-before-breaks-fit d =
     let told = d.reasoned_cut (a ∷ b ∷ []) (replicate 6 0) (replicate 4 0) [] (replicate 6 0) (1 ∷ 1 ∷ 2 ∷ 1 ∷ []) [] (refuses 4)
@@ -44,7 +46,8 @@ ends-before-breaks-fit d =
     omega arith
 
 -- demand 2 shuts out every one whose breaks are not the factorization's
-pub other-breaks : (f : List ℕ → List Break) (w : List ℕ) → 1 ≤ length w → length w ≤ most_letters → ¬ (entries_of_breaks (f w) ≡ entries_of_breaks (separated_breaks w))
+pub other-breaks : (f : List ℕ → List Break) (w : List ℕ) → 1 ≤ length w → length w ≤ most_letters
+    → ¬ (entries_of_breaks (f w) ≡ entries_of_breaks (separated_breaks w))
     → ¬ Demand2 (reasoner (ReasonsBy f (reasoned_lines f))) w
 other-breaks f w s l n d =
     let work : List ℕ = replicate (3 * length w) 0 in

@@ -57,7 +57,8 @@ period-doubled f x d =
     omega arith
 
 -- "by first place and then by period": one that goes by the period first
-pub by-period-first : (f : List ℕ → List Triple) → f (a ∷ a ∷ b ∷ a ∷ a ∷ b ∷ []) ≡ (0, 2, 1) ∷ (3, 5, 1) ∷ (0, 6, 3) ∷ [] → ¬ Demands record_door (lister (Lists f))
+pub by-period-first : (f : List ℕ → List Triple) → f (a ∷ a ∷ b ∷ a ∷ a ∷ b ∷ []) ≡ (0, 2, 1) ∷ (3, 5, 1) ∷ (0, 6, 3) ∷ []
+    → ¬ Demands record_door (lister (Lists f))
 unfolding tried separated_runs flatten
 by-period-first f x d =
     let w : List ℕ = a ∷ a ∷ b ∷ a ∷ a ∷ b ∷ [] in

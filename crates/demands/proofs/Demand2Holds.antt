@@ -70,7 +70,8 @@ verdict-is {door} w work work' r f e =
     let none : tried lines ≡ Passed = sym (said (verdict_of w) (tried lines) f.answer) ∙ e in
     (rw none at f.answer, rw none at f.buffer)
 
-verdict-fails : {door : List Line} (w work work' : List ℕ) (l p r : ℕ) → 0 < length w → ExtensionFound door w work (gives (Some (record { failing = l; prefix = p; border = r }))) work'
+verdict-fails : {door : List Line} (w work work' : List ℕ) (l p r : ℕ) → 0 < length w
+    → ExtensionFound door w work (gives (Some (record { failing = l; prefix = p; border = r }))) work'
     → BoundedExtension w l p r
 verdict-fails w work work' l p r s f =
     let told = fails-told w s (verdict-is w work work' (gives (Some (record { failing = l; prefix = p; border = r }))) f refl).0 in

@@ -134,7 +134,8 @@ module _ (d : Doorway) (s : Sound d) (c : Calls) (all : Demands d c) where
   summed w ps r h =
       let told = all.first.summary w ps r h in
       let lines = d.door w ++ summary_lines w ps in
-      let is : r ≡ summary_reply (ends_of ps) unless lines then empty_reply = answer-is _ told.0.first r (summary_reply (ends_of ps)) empty_reply told.1 (summary-is w ps r h) in
+      let is : r ≡ summary_reply (ends_of ps) unless lines then empty_reply =
+      answer-is _ told.0.first r (summary_reply (ends_of ps)) empty_reply told.1 (summary-is w ps r h) in
       (gives (summary_of (ends_of ps)) unless lines then (λ (i : ℕ). refuses i), record { answer = refl }, is ∙ sym (summary-numbered lines (ends_of ps)))
 
   pub demands-suffice : Meets d.door (of_bytes c)

@@ -58,7 +58,8 @@ library = behind record_lines
 -- what the numbers of an exported function stand for: a refusal's number, 0 for a result, and the result's; L is 0 for an inverse Lyndon word
 abbrev pub verdict_by : ℕ × ℕ × ℕ × ℕ → Says (Option Extension)
 verdict_by (number, failing, prefix, border) =
-    decided (numbered number) (elim (eqb failing 0) [ true ↦ gives None | false ↦ gives (Some (record { failing = failing; prefix = prefix; border = border })) ]) refuses
+    decided (numbered number)
+    (elim (eqb failing 0) [ true ↦ gives None | false ↦ gives (Some (record { failing = failing; prefix = prefix; border = border })) ]) refuses
 
 abbrev pub count_by : ℕ × ℕ → Says ℕ
 count_by (number, count) = decided (numbered number) (gives count) refuses
@@ -83,7 +84,8 @@ exported_behind door =
     record {
       Test = λ w work r work'. Reads test_numbers verdict_by r (λ a. calls.Test w work a work');
       PieceCut = λ w work pairs r work' pairs'. Reads count_numbers count_by r (λ a. calls.PieceCut w work pairs a work' pairs');
-      ReasonedCut = λ w work pairs breaks r work' pairs' breaks'. Reads breaks_numbers counts_by r (λ a. calls.ReasonedCut w work pairs breaks a work' pairs' breaks');
+      ReasonedCut = λ w work pairs breaks r work' pairs' breaks'.
+          Reads breaks_numbers counts_by r (λ a. calls.ReasonedCut w work pairs breaks a work' pairs' breaks');
       CardCut = λ bytes es work pairs r work' pairs'. Reads batch_numbers batch_by r (λ a. calls.CardCut bytes es work pairs a work' pairs');
       StrictCut = λ w ends r ends'. Reads count_numbers count_by r (λ a. calls.StrictCut w ends a ends');
       StartTable = λ w out r out'. Reads count_numbers count_by r (λ a. calls.StartTable w out a out');

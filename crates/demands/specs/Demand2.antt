@@ -75,8 +75,8 @@ pub record Demand2 (c : Calls) (w : List ℕ) : Type 0 where
       → (k : ℕ) (part : List ℕ) (number : ℕ) → c.Reading w (take (2 * n) pairs') k part number → k < n → number ≡ 0
   pub summed : (work pairs work' pairs' : List ℕ) (n : ℕ) → c.PieceCut w work pairs (gives n) work' pairs'
       → (r : SummaryReply) → c.Summing w (take (2 * n) pairs') r → r.refusal ≡ 0
-  -- request 103: "Each mark is a piece and a strict piece of its own .. Each nonempty stretch between neighbouring marks or the record's edges is cut as a record
-  -- by itself": so it is made, and it is the only list of the kind
+  -- request 103: "Each mark is a piece and a strict piece of its own .. Each nonempty stretch between neighbouring marks or the record's edges is cut as a
+  -- record by itself": so it is made, and it is the only list of the kind
   pub alone : (i : ℕ) → get_or w i 0 ≡ separator → Part (separated_icfl_ends w) i (i + 1) × Part (separated_cfl_in_ends w) i (i + 1)
   pub by_stretches : separated_icfl w ≡ between mark (map icfl (stretches w))
   pub divided : SeparatedOf InverseLyndon DominatedBy w (separated_icfl w)

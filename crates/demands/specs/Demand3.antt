@@ -29,9 +29,11 @@ pub record Demand3 (w es ss : List ℕ) (compare : ℕ → ℕ → ℕ → ℕ �
       → (sign_said (compare first end start other) ≡ negsuc 0) ⊎ (sign_said (compare first end start other) ≡ pos 1)
   -- of any stretch: "It compares the two remainders of the stretch in the inverse order: −1 if the first start's comes first, 0 if the starts are equal, +1
   -- otherwise."
-  pub signed : (first end start other : ℕ) → Inside (length w) first end start other → SignOf w first end start other (sign_said (compare first end start other))
+  pub signed : (first end start other : ℕ) → Inside (length w) first end start other
+      → SignOf w first end start other (sign_said (compare first end start other))
   -- request 104, of any stretch: "the number of equal leading bytes before the stretch ends for either of them. For equal starts that is the whole remainder."
-  pub shared : (first end start other : ℕ) → Inside (length w) first end start other → SharedMost w end start other (common_said (compare first end start other))
+  pub shared : (first end start other : ℕ) → Inside (length w) first end start other
+      → SharedMost w end start other (common_said (compare first end start other))
   pub remainder : (first end start other : ℕ) → Inside (length w) first end start other → start ≡ other
       → common_said (compare first end start other) ≡ end - start
   pub either : (first end start other : ℕ) → Inside (length w) first end start other

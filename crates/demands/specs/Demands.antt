@@ -1,7 +1,7 @@
 -- DEFINITIONS. The customer's three demands, stated once about any calls and the doorway through which they take records in. The library's calls are such, and
 -- so are the exported functions: that the demands hold of both are the theorems library-demands and exported-demands (DemandsHold). Each field carries the
--- customer's sentence, in Demand1, Demand2, Demand3 and Requests. That every call ends, and without undefined behaviour, is what the proof of its function says.
--- What meets them gives the library's answers and leaves the lent buffers as the library does: library-only (DemandsSuffice).
+-- customer's sentence, in Demand1, Demand2, Demand3 and Requests. That every call ends, and without undefined behaviour, is what the proof of its function
+-- says. What meets them gives the library's answers and leaves the lent buffers as the library does: library-only (DemandsSuffice).
 use Rattle.std.specs.Prelude.{◌≡◌, List, ℕ, ◌≤◌, length, ℤ}
 use Rattle.words.specs.Separated.{UpToSeparator}
 use Rattle.words.specs.Pairs.{ends_of}

@@ -116,7 +116,8 @@ module _ (d : Doorway) (s : Sound d) where
   batch-back bytes es work pairs a e =
       let answers = (batch_of d.door bytes es work pairs).answers in
       let each : Every Positive answers = rw (batch-answers d.door bytes es work pairs)
-      (every-added d.door Positive (λ w work pairs. never-0 _ (no_zero w (icfl_lines w (length work) (length pairs)) refl) (length (separated_icfl_ends w)) refl)
+      (every-added d.door Positive
+      (λ w work pairs. never-0 _ (no_zero w (icfl_lines w (length work) (length pairs)) refl) (length (separated_icfl_ends w)) refl)
       (uncut work pairs) (records_from 0 es bytes))
       in
       ap (λ (t : List (Says ℕ)). (a.0, t)) (places-back a.1 (go (tried (batch_lines es (length bytes))) answers each e))
@@ -137,7 +138,8 @@ module _ (d : Doorway) (s : Sound d) where
         part-is = z ∙ ap (λ (t : ℕ × ℕ × ℕ). slice t.1 t.2 w) e ∙ go (tried lines);
       }
     where
-      go : (q : Checked) → (let t = decided {A = ℕ × ℕ × ℕ} q (0, factor_begin (ends_of ps) k, get_or (ends_of ps) k 0) (λ number. (number, 0, 0)) in slice t.1 t.2 w)
+      go : (q : Checked)
+          → (let t = decided {A = ℕ × ℕ × ℕ} q (0, factor_begin (ends_of ps) k, get_or (ends_of ps) k 0) (λ number. (number, 0, 0)) in slice t.1 t.2 w)
           ≡ decided q (slice (factor_begin (ends_of ps) k) (get_or (ends_of ps) k 0) w) (λ number. [])
       go Passed = refl
       go (Refused number) = slice_empty 0 w

@@ -46,14 +46,16 @@ pub record Within (c calls : Calls) : Type 0 where
   pub test : (w work : List ℕ) (r : Says (Option Extension)) (work' : List ℕ) → c.Test w work r work' → calls.Test w work r work'
   pub piece_cut : (w work pairs : List ℕ) (r : Says ℕ) (work' pairs' : List ℕ) → c.PieceCut w work pairs r work' pairs'
       → calls.PieceCut w work pairs r work' pairs'
-  pub reasoned_cut : (w work pairs breaks : List ℕ) (r : Says (ℕ × ℕ)) (work' pairs' breaks' : List ℕ) → c.ReasonedCut w work pairs breaks r work' pairs' breaks'
+  pub reasoned_cut : (w work pairs breaks : List ℕ) (r : Says (ℕ × ℕ)) (work' pairs' breaks' : List ℕ)
+      → c.ReasonedCut w work pairs breaks r work' pairs' breaks'
       → calls.ReasonedCut w work pairs breaks r work' pairs' breaks'
   pub card : (bytes es work pairs : List ℕ) (r : ℕ × List (Says ℕ)) (work' pairs' : List ℕ) → c.CardCut bytes es work pairs r work' pairs'
       → calls.CardCut bytes es work pairs r work' pairs'
   pub strict_cut : (w ends : List ℕ) (r : Says ℕ) (ends' : List ℕ) → c.StrictCut w ends r ends' → calls.StrictCut w ends r ends'
   pub start_table : (w out : List ℕ) (r : Says ℕ) (out' : List ℕ) → c.StartTable w out r out' → calls.StartTable w out r out'
   pub repetitions : (w out : List ℕ) (r : Says ℕ) (out' : List ℕ) → c.Repetitions w out r out' → calls.Repetitions w out r out'
-  pub comparison : (w : List ℕ) (first end start other : ℕ) (r : Says (ℤ × ℕ)) → c.Comparing w first end start other r → calls.Comparing w first end start other r
+  pub comparison : (w : List ℕ) (first end start other : ℕ) (r : Says (ℤ × ℕ)) → c.Comparing w first end start other r
+      → calls.Comparing w first end start other r
   pub reader : (w ps : List ℕ) (k : ℕ) (part : List ℕ) (number : ℕ) → c.Reading w ps k part number → calls.Reading w ps k part number
   pub summary : (w ps : List ℕ) (r : SummaryReply) → c.Summing w ps r → calls.Summing w ps r
 

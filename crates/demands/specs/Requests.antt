@@ -38,8 +38,8 @@ pub record SummedUp (es : List ℕ) (r : SummaryReply) : Type 0 where
 
 -- ---- request 105, the answers for the records of a card that is not refused
 
--- "Each record's answer, refusal included, is the one a single call gives with what is left of the result buffer. A refused record uses none of it, and the next
--- one is still tried.": the calls one after another, each with the buffers as the one before left them
+-- "Each record's answer, refusal included, is the one a single call gives with what is left of the result buffer. A refused record uses none of it, and the
+-- next one is still tried.": the calls one after another, each with the buffers as the one before left them
 pub data Singly (c : Calls) : (records : List (List ℕ)) (work left : List ℕ) (answers : List (Says ℕ)) (work' left' : List ℕ) → Type 0 where
   none : {work left : List ℕ} → Singly c [] work left [] work left
   next : {w work left work₁ left₁ work' left' : List ℕ} {ws : List (List ℕ)} {a : Says ℕ} {answers : List (Says ℕ)} → c.PieceCut w work left a work₁ left₁

@@ -104,7 +104,8 @@ verdict-small w a false d =
     let inside = failing-is w a.nonempty n in
     (omega (arith, inside.inside, a.short), omega (arith, step.failing.inside, a.short), omega (arith, step.failing.inside, a.short))
 
-pub test-small : {door : List Line} {w work work' : List ℕ} {said : Says (Option Extension)} → Guards door w → ExtensionFound door w work said work' → SmallTest said
+pub test-small : {door : List Line} {w work work' : List ℕ} {said : Says (Option Extension)} → Guards door w → ExtensionFound door w work said work'
+    → SmallTest said
 unfolding verdict_of
 test-small {door} {w} {work} g f =
     let own = extension_lines w (length work) in
@@ -114,7 +115,8 @@ test-small {door} {w} {work} g f =
 
 -- ---- the comparison
 
-pub comparison-small : {door : List Line} {w : List ℕ} {first end start other : ℕ} {said : Says (ℤ × ℕ)} → Guards door w → Compared door w first end start other said
+pub comparison-small : {door : List Line} {w : List ℕ} {first end start other : ℕ} {said : Says (ℤ × ℕ)} → Guards door w
+    → Compared door w first end start other said
     → SmallComparison said
 comparison-small {door} {w} {first} {end} {start} {other} g f =
     let own = compare_lines (length w) first end start other in

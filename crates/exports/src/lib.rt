@@ -17,6 +17,7 @@ ghost use Rattle.numbers.specs.Numbers.{test_numbers, count_numbers, breaks_numb
 ghost use Rattle.exports.specs.Exports.{export_door, Gives, factor_numbers, place_numbers};
 
 use checks::{Record, Refusal};
+use compare::Starts;
 use numbers::{Replies, SummaryReply};
 
 // Where part `number` begins and ends.
@@ -120,8 +121,13 @@ pub fn metsroeb_compare(
     ensures { Gives comparison_numbers (result, sign.new, common.new)
         (λ said. Compared (export_door word.now) word.now first end start other said) }
 {
-    let answer = compare::compare_suffixes(word, first, end, start, other);
-    numbers::tell_comparison(answer, sign, common)
+    let starts = Starts {
+        first,
+        end,
+        start,
+        other,
+    };
+    numbers::tell_comparison(compare::compare_suffixes(word, starts), sign, common)
 }
 
 pub fn metsroeb_factor(

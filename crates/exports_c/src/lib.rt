@@ -1,5 +1,6 @@
 //! The static library for C and Rust: include/metsroeb.h has its signatures. Each function is the one of its name in
-//! the crate exports, and says the same promise.
+//! the crate exports, and says the same promise: another crate cannot stand on a static library, and C cannot call a
+//! function without `no_mangle`.
 #![tactic(auto)]
 
 ghost use Rattle.std.specs.Prelude.{◌≡◌};

@@ -35,7 +35,8 @@ pub fails-is : (v : List ℕ) {x : Extension} → 0 < length v → Some x ≡ ve
 unfolding verdict_of given
 fails-is v {x} s e = go (is_inverse_lyndon v) refl e
   where
-    go : (t : Bool) → is_inverse_lyndon v ≡ t → Some x ≡ verdict_as t (failing_length v) (prefix_length v) (border_length v) → Fails v x.failing x.prefix x.border
+    go : (t : Bool) → is_inverse_lyndon v ≡ t → Some x ≡ verdict_as t (failing_length v) (prefix_length v) (border_length v)
+        → Fails v x.failing x.prefix x.border
     go true d z = let b : ◌≡◌ {A = ℕ} 0 1 = cc in absurd (omega arith)
     go false d z =
         let n : ¬ InverseLyndon v = decides-false (inverse-lyndon-test v) d in
@@ -57,7 +58,8 @@ pub holds-is : (v : List ℕ) → None ≡ verdict_of v → InverseLyndon v
 unfolding verdict_of
 holds-is v e = go (is_inverse_lyndon v) refl e
   where
-    go : (t : Bool) → is_inverse_lyndon v ≡ t → ◌≡◌ {A = Option Extension} None (verdict_as t (failing_length v) (prefix_length v) (border_length v)) → InverseLyndon v
+    go : (t : Bool) → is_inverse_lyndon v ≡ t → ◌≡◌ {A = Option Extension} None (verdict_as t (failing_length v) (prefix_length v) (border_length v))
+        → InverseLyndon v
     go true d z = decides-true (inverse-lyndon-test v) d
     go false d z = let b : ◌≡◌ {A = ℕ} 0 1 = cc in absurd (omega arith)
 

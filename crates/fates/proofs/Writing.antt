@@ -1,5 +1,5 @@
--- The pass from left to right, over plain lists: the entries that were written, with those of the breaks among the cuts that are left after them, are the entries
--- of all breaks; from entry next on stand the ends that are left.
+-- The pass from left to right, over plain lists: the entries that were written, with those of the breaks among the cuts that are left after them, are the
+-- entries of all breaks; from entry next on stand the ends that are left.
 use mathlib.Core.Path.{◌≡◌, refl, ap, sym, ◌∙◌}
 use mathlib.Core.Logic.{◌⊎◌, inl, inr}
 use mathlib.Core.Bool.{Bool, true, false}
@@ -36,7 +36,8 @@ among_next : (w : List ℕ) (b : Break) (bs : List Break) → entries_of_breaks 
 unfolding breaks_among flatten
 among_next w b bs = go (is_beside_separator w b.place)
   where
-    go : (t : Bool) → entries_of_breaks (unless_beside t b (breaks_among w bs)) ≡ entries_of_breaks (unless_beside t b []) ++ entries_of_breaks (breaks_among w bs)
+    go : (t : Bool)
+        → entries_of_breaks (unless_beside t b (breaks_among w bs)) ≡ entries_of_breaks (unless_beside t b []) ++ entries_of_breaks (breaks_among w bs)
     go true = refl
     go false = ap (λ (es : List ℕ). es ++ entries_of_breaks (breaks_among w bs)) (sym (append-nil (break_entries b)))
 

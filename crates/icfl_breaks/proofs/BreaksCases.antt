@@ -54,7 +54,8 @@ module _ (w work pairs breaks : List ℕ) where
   }
 
   -- past line 3 the work buffer is cleared, whatever the lines 4 say
-  pub breaks-tried : tried third ≡ Passed → {found : Found} {work₁ work₂ : List ℕ} → CutFound w work found work₁ → {said : Says (ℕ × ℕ)} {pairs' breaks' : List ℕ}
+  pub breaks-tried : tried third ≡ Passed → {found : Found} {work₁ work₂ : List ℕ} → CutFound w work found work₁
+      → {said : Says (ℕ × ℕ)} {pairs' breaks' : List ℕ}
       → BothFilled w pairs breaks said pairs' breaks' → work₂ ≡ cleared (3 * length w) work₁ → BreaksDone [] w work pairs breaks said work₂ pairs' breaks'
   breaks-tried p x f y = record {
     answer = f.answer ∙ past-door third fourth (result w pairs breaks) (λ (i : ℕ). refuses i) p;
@@ -80,7 +81,8 @@ module _ (door : List Line) (w work pairs breaks : List ℕ) where
     worked = at-door-worked door own (3 * length w) work no-four e;
   }
 
-  pub breaks-past-door : {said : Says (ℕ × ℕ)} {work' pairs' breaks' : List ℕ} → tried door ≡ Passed → BreaksDone [] w work pairs breaks said work' pairs' breaks'
+  pub breaks-past-door : {said : Says (ℕ × ℕ)} {work' pairs' breaks' : List ℕ} → tried door ≡ Passed
+      → BreaksDone [] w work pairs breaks said work' pairs' breaks'
       → BreaksDone door w work pairs breaks said work' pairs' breaks'
   breaks-past-door p f = record {
     answer = f.answer ∙ past-door door own counts (λ (i : ℕ). refuses i) p;

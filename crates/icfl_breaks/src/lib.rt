@@ -38,7 +38,8 @@ fn fill_both(
     Ok(counts)
 }
 
-/// The piece cut with its reasons of an accepted record: the call's own lines, 3 and twice 4, and its work.
+/// The piece cut with its reasons of an accepted record: the call's own lines, 3 and twice 4, and its work. The steps are
+/// those of `icfl::cut`; what would serve both takes the filling as a closure over the lent buffers, with its promise.
 pub fn cut_with_breaks(
     admitted: Record,
     work: &mut [u16],

@@ -1,6 +1,5 @@
 -- What the functions that keep the runs of the result buffer in order ask and promise. No call's promise cites this file.
-use Rattle.std.specs.Prelude.{◌≡◌, List, [], ◌∷◌, ◌++◌, ℕ, zero, suc, ◌+◌, ◌*◌, ◌≤◌, length, take, drop, get_or}
-use Rattle.words.specs.Words.{most_letters}
+use Rattle.std.specs.Prelude.{◌<◌, ◌≡◌, List, [], ◌∷◌, ◌++◌, ℕ, zero, suc, ◌+◌, ◌*◌, ◌≤◌, length, take, drop, get_or}
 use Rattle.words.specs.Runs.{Triple}
 use Rattle.theory.specs.Repetitions.Insertion.{insert_run, InOrder}
 use Rattle.inserting.specs.declared.Run.{Run}
@@ -30,9 +29,9 @@ pub record Belongs (xs : List ℕ) (count : ℕ) (r : Triple) (k : ℕ) : Type 0
 
 -- a run whose three entries fit into 16 bits
 pub record RunFits (r : Run) : Type 0 where
-  pub first_fits : r.first ≤ most_letters
-  pub end_fits : r.end ≤ most_letters
-  pub period-fits : r.period ≤ most_letters
+  pub first_fits : r.first < 65536
+  pub end_fits : r.end < 65536
+  pub period-fits : r.period < 65536
 
 -- a run to be put among the first ones
 pub record InsertAsked (xs : List ℕ) (count : ℕ) (r : Run) : Type 0 where

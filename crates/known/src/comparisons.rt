@@ -1,7 +1,7 @@
 //! What paper 01 and the requests 104 and 106 say of two starts in a range: the sign, and how many leading letters are
 //! equal.
 use super::printing::Answer;
-use compare::Order;
+use compare::{Order, Starts};
 use std::cmp::Ordering;
 use std::ops::Range;
 use std::{fmt, io};
@@ -31,7 +31,13 @@ fn print_comparison(
     other: usize,
 ) -> io::Result<()> {
     let Range { start: first, end } = range;
-    let answer = compare::compare_suffixes(word, first, end, start, other);
+    let starts = Starts {
+        first,
+        end,
+        start,
+        other,
+    };
+    let answer = compare::compare_suffixes(word, starts);
     println!(out;
         "{name} over {first} to {end}, {start} and {other}: {}",
         Answer(answer.map(Compared))

@@ -1,6 +1,7 @@
 //! The refusals of every call that takes one record.
 use super::printing::Numbers;
 use checks::{MOST, Refusal};
+use compare::Starts;
 use std::io;
 
 // The refusal's number as the lines have it, 0 for a result.
@@ -28,8 +29,14 @@ fn lent_numbers(word: &[u8]) -> [u16; 6] {
 
 // Those of comparison, reader and summary.
 fn other_numbers(word: &[u8], pairs: &[u16]) -> [u16; 3] {
+    let whole = Starts {
+        first: 0,
+        end: word.len(),
+        start: 0,
+        other: 0,
+    };
     [
-        number(compare::compare_suffixes(word, 0, word.len(), 0, 0)),
+        number(compare::compare_suffixes(word, whole)),
         number(reading::factor_at(word, pairs, 0)),
         number(summary::summarize(word, pairs)),
     ]

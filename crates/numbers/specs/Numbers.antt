@@ -24,7 +24,10 @@ extension_numbers None = (0, 0, 0)
 extension_numbers (Some x) = (x.failing, x.prefix, x.border)
 
 abbrev pub test_numbers : Says (Option Extension) → ℕ × ℕ × ℕ × ℕ
-test_numbers said = let (number, verdict) = numbers_or None said in let (failing, prefix, border) = extension_numbers verdict in (number, failing, prefix, border)
+test_numbers said =
+    let (number, verdict) = numbers_or None said in
+    let (failing, prefix, border) = extension_numbers verdict in
+    (number, failing, prefix, border)
 
 -- the refusal, the number of factors, that of breaks
 abbrev pub breaks_numbers : Says (ℕ × ℕ) → ℕ × ℕ × ℕ

@@ -19,7 +19,8 @@ use extension::Extension;
 use icfl_breaks::Counts;
 use summary::Summary;
 
-/// A count or a refusal, as two numbers.
+/// A count or a refusal, as two numbers: C has no `Result`, so a 0 in the one says that the other counts. The structs below
+/// are so for the same reason.
 #[repr(C)]
 #[derive(Clone, Copy)]
 pub struct Reply {

@@ -1,6 +1,6 @@
 //! A list of pairs in a buffer (request 108): for each part of a record its end, and beside it the number of
 //! anti-Lyndon factors inside. Only this crate knows that a pair is two entries, the end first; calls that read or
-//! write such a list go through it.
+//! write such a list go through it. The list is flat because C lends it so.
 #![tactic(auto)]
 
 ghost use Rattle.std.specs.Prelude.{◌≡◌, ◌*◌, ◌≤◌, ◌<◌, length, get_or};

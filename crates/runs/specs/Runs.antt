@@ -12,4 +12,5 @@ runs_lines w entries = result_line entries (3 * length (separated_runs w)) ∷ [
 -- the call's promise, by the lines at its door: "The call answers with the number of repetitions", which are written "from entry 0, and what a result
 -- buffer holds past the answer stays"
 abbrev pub RunsDone : List Line → List ℕ → List ℕ → Says ℕ → List ℕ → Type 0
-RunsDone door w buffer said buffer' = Filled (door ++ runs_lines w (length buffer)) (length (separated_runs w)) (entries_of_runs (separated_runs w)) buffer said buffer'
+RunsDone door w buffer said buffer' =
+    Filled (door ++ runs_lines w (length buffer)) (length (separated_runs w)) (entries_of_runs (separated_runs w)) buffer said buffer'

@@ -11,7 +11,8 @@ ghost use Rattle.strict.specs.Walk.{Repeats};
 
 use scan::Scan;
 
-// A factor that is repeated: its length, and the place before which each of its repetitions begins.
+// A factor that is repeated: its length, and the place before which each of its repetitions begins; 0 before the first
+// factor, since no place lies before it.
 #[derive(Clone, Copy)]
 struct Run {
     length: usize,
@@ -93,7 +94,8 @@ impl<'a> Iterator for Factors<'a> {
     }
 }
 
-/// The number of factors of a word: of a record that was accepted, or of a part of one. Nothing is stored.
+/// The number of factors of a word: of a record that was accepted, or of a part of one, which is lent as it is; a type for
+/// its length would be built at each call and taken apart at once. Nothing is stored.
 pub fn count_factors(word: &[u8]) -> usize
     requires { length word.now ≤ most_letters }
     ensures { result ≡ length (separated_cfl_in_ends word.now) }

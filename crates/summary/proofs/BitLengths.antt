@@ -1,5 +1,5 @@
--- The definition's bit_length_of is the number of binary digits (bit-length-bounds), 1 to 13 for a length of 1 to 4096 (bit-length-most; bit-length-digits), and
--- what is left of 16 digits without the leading zeros (zeros-and-bits).
+-- The definition's bit_length_of is the number of binary digits (bit-length-bounds), 1 to 13 for a length of 1 to 4096 (bit-length-most; bit-length-digits),
+-- and what is left of 16 digits without the leading zeros (zeros-and-bits).
 use mathlib.Core.Path.{◌≡◌, refl, ap, ◌∙◌}
 use Prim.Native.Nat.{ℕ, zero, suc, ◌+◌, ◌-◌, ◌/◌, ◌^◌, ◌≤◌, ◌<◌}
 use native.Mathlib.Nat.{add-suc, add-zero, pow-suc}

@@ -26,7 +26,8 @@ ends-admitted w ps a e =
     record { letters = a.short; some = omega (arith, v.some, paired-number v.paired); rises = paired-rise v.paired }
 
 -- the same of all lines of the call, whatever stands at its door
-pub all-admitted : (door : List Line) (w ps : List ℕ) → (tried door ≡ Passed → Accepted w) → tried (door ++ summary_lines w ps) ≡ Passed → EndsAccepted w (ends_of ps)
+pub all-admitted : (door : List Line) (w ps : List ℕ) → (tried door ≡ Passed → Accepted w) → tried (door ++ summary_lines w ps) ≡ Passed
+    → EndsAccepted w (ends_of ps)
 all-admitted door w ps g e = let b = both-passed door (summary_lines w ps) e in ends-admitted w ps (g b.0) b.1
 
 pub summable : {w es : List ℕ} → EndsAccepted w es → Summable es

@@ -1,5 +1,6 @@
 //! The comparison, and that of two words alone with how far they agree.
 use access::{TwoStarts, part, part_end, part_start};
+use compare::Starts;
 use letters::Order;
 use naive::Compared;
 use samples::{Run, about};
@@ -20,7 +21,13 @@ fn answer(word: &[u8], asked: TwoStarts) -> Result<Compared, u8> {
         start,
         other,
     } = asked;
-    compare::compare_suffixes(word, first, end, start, other)
+    let starts = Starts {
+        first,
+        end,
+        start,
+        other,
+    };
+    compare::compare_suffixes(word, starts)
         .map(compared)
         .map_err(u8::from)
 }

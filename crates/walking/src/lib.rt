@@ -22,7 +22,8 @@ struct Stretch<'a> {
     from: usize,
 }
 
-// One place of a stretch: answers the number of runs, which was `count` before.
+// One place of a stretch: answers the number of runs, which was `count` before. The list lies in the buffer that C lends,
+// so it and its number stay two.
 fn visit_place<S: Sink>(stretch: Stretch<'_>, i: usize, runs: &mut [u16], count: usize) -> usize
     requires { PlaceRoom stretch.word.now stretch.longest.now i stretch.from runs.old count S.stores }
     ensures { Visited stretch.entry.from runs.old count S.stores (found_at most_byte stretch.entry.word.now i) result runs.new }
@@ -53,7 +54,8 @@ fn visit<S: Sink>(stretch: Stretch<'_>, runs: &mut [u16], count: usize) -> usize
     total
 }
 
-// Where the stretch ends that begins at `from`: at the next separator, or with the record.
+// Where the stretch ends that begins at `from`: at the next separator, or with the record. By the slice's `position` the
+// proof did not close.
 fn stretch_end(word: &[u8], from: usize) -> usize
     requires { from < length word.now }
     ensures { StretchEnds word.now from result }

@@ -11,7 +11,7 @@ use Rattle.compare.proofs.suffixes.compare_within.Goals as goal
 use Rattle.compare.proofs.suffixes.compare_within.Goals.{In_ok-admit}
 
 -- past the lines both starts lie in the range, and the range in the word
-inside-at : (c : In_ok-admit) → Within c.args.admitted.letters.now c.args.first c.args.end c.args.start c.args.other
+inside-at : (c : In_ok-admit) → Within c.args.admitted.letters.now c.args.starts.first c.args.starts.end c.args.starts.start c.args.starts.other
 inside-at c = within _ _ _ _ _ (sym c.in_ok-admit.ensures)
 
 pub returns-in_err-admit : goal.returns-in_err-admit
