@@ -263,7 +263,7 @@ filled-counted {lines} {n} {m} {vs} {buffer} {buffer'} f = go (tried lines) f.an
     go Passed e b = (refl, cc, b)
     go (Refused number) e b = let z : ◌≡◌ {A = ℕ} 0 1 = cc in absurd (omega arith)
 
--- a call that answered Count m wrote m entries to the buffer's front
+-- a call that answered m wrote m entries to the buffer's front
 pub filled-entries : {lines : List Line} {n m : ℕ} {vs buffer buffer' : List ℕ} → Filled lines n vs buffer (gives m) buffer' → (k : ℕ) → k ≡ length vs
     → (take k buffer' ≡ vs) × (k ≤ length buffer')
 filled-entries {vs = vs} {buffer = buffer} f k e =

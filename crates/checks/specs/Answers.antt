@@ -1,5 +1,5 @@
 -- DEFINITIONS. What an answer says, by paper 01's number and values for each of its cases, and what a call that fills a result buffer answers and leaves in it.
--- Every promise of an answer that is an enum is about what it says.
+-- Every promise of a Result is about what it says.
 use Rattle.std.specs.Prelude.{◌≡◌, List, ℕ, zero, suc, Result, Ok, Err}
 use Rattle.buffers.specs.Buffers.{written}
 use Rattle.checks.specs.Lines.{Line, Checked, Passed, Refused, decided, ◌unless◌then◌}

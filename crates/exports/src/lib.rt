@@ -1,6 +1,6 @@
-//! The calls for C and Rust: include/metsroeb.h has their signatures. Each returns the refusal's number, 0 for said
-//! result, or a struct that holds it; results go to that struct or to numbers that the caller lends, 0 beside said
-//! refusal. Each promises the numbers of an answer that the library's own promise allows.
+//! The calls for C and Rust: include/metsroeb.h has their signatures. Each returns the refusal's number, 0 for a
+//! result, or a struct that holds it; results go to that struct or to numbers that the caller lends, 0 beside a refusal.
+//! Each promises the numbers of an answer that the library's own promise allows.
 #![tactic(auto)]
 
 ghost use Rattle.std.specs.Prelude.{◌≡◌};

@@ -1,4 +1,4 @@
--- The first of the cuts that are left, by the first of the ends that are left: what break_of makes is it (break-is), and the ends after it (kept-ends-on,
+-- The first of the cuts that are left, by the first of the ends that are left: what the cut makes of it is it (break-is), and the ends after it (kept-ends-on,
 -- joined-ends-on).
 use mathlib.Core.Path.{◌≡◌, refl, ap, sym}
 use mathlib.Core.List.{List, ◌∷◌}

@@ -1,4 +1,4 @@
--- What the comparison's inner functions ask and promise. No call's promise cites this file.
+-- What the comparison's inner functions ask and promise; sign_of stands in compare's promise.
 use Rattle.std.specs.Prelude.{◌≡◌, Option, Some, None, List, ℕ, ◌<◌, min, length, ℤ, pos, negsuc}
 use Rattle.std.specs.declared.cmp.Ordering.{Ordering}
 use Rattle.std.specs.declared.cmp.Ordering.TheVariants.{Less, Equal, Greater}

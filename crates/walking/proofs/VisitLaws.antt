@@ -2,6 +2,7 @@
 -- others (list-after). What is found at a place fits (run_fits). The loop over the places of a stretch (Visiting).
 use mathlib.Core.Path.{◌≡◌, refl, ap, sym, ◌∙◌}
 use mathlib.Core.Bool.{Bool, true}
+use Rattle.std.specs.Prelude.{Option, Some, None}
 use mathlib.Core.List.Memᴰ
 use mathlib.Core.List.{List, [], ◌∷◌, map, map-append}
 use Prim.Native.Nat.{ℕ, ◌+◌, ◌-◌, ◌*◌, ◌≤◌, ◌<◌}
@@ -22,7 +23,7 @@ use Rattle.inserting.specs.Inserting.{triple, triples, RunFits, InsertRoom}
 use Rattle.inserting.specs.declared.Run.{Run}
 use Rattle.inserting.proofs.InsertLaws.{entries-length, triples-length, triples-written, entries-triples}
 use Rattle.common.specs.Orders.{most_byte}
-use Rattle.found.specs.Found.{PlaceKnown}
+use Rattle.found.specs.Found.{PlaceKnown, found_runs}
 use Rattle.walking.specs.Walking.{Listed, Put, all_found, VisitRoom, Visited}
 
 -- ---- lists
@@ -53,6 +54,11 @@ module _ {rs : List Triple} {out₀ out : List ℕ} {store : Bool} {count : ℕ}
   }
 
 -- ---- a place
+
+-- what no run stands for
+pub none_told : (f : Option Run) → ((run : Run) → f ≡ Some run → ⊥) → found_runs f ≡ []
+none_told None h = refl
+none_told (Some run) h = absurd (h run refl)
 
 module _ {w longest out : List ℕ} {from count : ℕ} {store : Bool} {found : List Triple} (v : VisitRoom w longest from out count store found) where
   pub place-known : {i : ℕ} → 0 < i → i < length w → PlaceKnown w longest i
