@@ -17,7 +17,7 @@ pub enum Call {
 /// How many calls are compared.
 pub const CALLS: usize = 9;
 
-/// Two starts in a range.
+/// Two starts in a range. The library has a struct like it; what is compared with the library takes nothing from it.
 #[derive(Clone, Copy)]
 pub struct TwoStarts {
     pub first: usize,

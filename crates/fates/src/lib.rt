@@ -79,7 +79,8 @@ fn write_if_break(word: &[u8], cut: Cut, buffer: &mut [u16], at: usize) -> usize
     at + 5
 }
 
-/// Writes all breaks of a record whose ends and cuts were found in `work`.
+/// Writes all breaks of a record whose ends and cuts were found in `work`. The ends go on at a kept cut alone: an iterator
+/// of them would give an Option there that always has an end.
 pub fn write_breaks(word: &[u8], work: &[u16], found: Found, buffer: &mut [u16])
     requires { Writable word.now work.now found buffer.old }
     ensures { buffer.new ≡ written (entries_of_breaks (separated_breaks word.now)) buffer.old }

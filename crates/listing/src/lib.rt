@@ -51,7 +51,7 @@ fn list_record(
 
 /// Writes the listing of `word` to the front of `out` and answers its length: seven lines, or the one line of refusal 1
 /// or 2. The buffers have room for every record; `work`, `pairs` and `strict` are left as the piece cut and the strict
-/// cut leave them.
+/// cut leave them. Each buffer is lent on to another call, so they are four and not a struct.
 pub fn write_listing(
     word: &[u8],
     work: &mut [u16; WORK],

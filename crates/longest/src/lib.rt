@@ -1,6 +1,7 @@
 //! The longest Lyndon word at each place, in either order of the letters: from right to left, the word at a place is
 //! made of the letter there and the longest words that follow, as long as each comes after what stands before it. At
 //! each place one of the two lengths is 1, so the longer one is kept; the letters of its word tell its order.
+//! The word and the table stay two arguments: the table is written between the calls that read it.
 #![tactic(auto)]
 
 ghost use Rattle.std.specs.Prelude.{◌≡◌, not};

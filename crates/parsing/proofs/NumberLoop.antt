@@ -2,11 +2,11 @@
 use mathlib.Core.Path.{◌≡◌, ap, sym, ◌∙◌}
 use mathlib.Core.Logic.{◌⊎◌, inl, inr}
 use mathlib.Core.List.{List, [], ◌∷◌}
-use Prim.Native.Nat.{ℕ, suc, ◌+◌, ◌-◌, ◌*◌, ◌≤◌, ◌<◌}
+use Prim.Native.Nat.{ℕ, suc, ◌+◌, ◌*◌, ◌≤◌, ◌<◌}
 use native.Mathlib.Numerals.{add-one}
 use native.Mathlib.Omega.{arith}
-use lib.ListN.{length, take, drop, get_or, length-drop, drop_of_length-le}
-use lib.Seq.{take_all, get_or-drop, drop-cons}
+use lib.ListN.{length, drop, get_or, drop_of_length-le}
+use lib.Seq.{drop-cons}
 use Rattle.text.specs.Reading.{nothing, found, most_number, digit_value, digits_on, number}
 use Rattle.parsing.specs.Parsing.{NumberAt}
 use Rattle.text.proofs.Readers.{digit-below, digit-above, digits-end, digits-stop, digits-zero}
@@ -42,45 +42,27 @@ module _ {byte : ℕ} (t : List ℕ) (at : ℕ) (l : at < length t) (b : byte �
 
 -- ---- a later one
 
--- the byte at k of the text from i on
-pub byte_at : (t : List ℕ) (i k end : ℕ) → end ≡ i + k → k < length (take (length t - i) (drop i t))
-    → (end < length t) × (get_or (take (length t - i) (drop i t)) k 0 ≡ get_or t end 0)
-byte_at t i k end e l =
-    let rest : take (length t - i) (drop i t) ≡ drop i t = take_all (length t - i) (drop i t) (omega (arith, length-drop i t)) in
-    let h : k < length (drop i t) = rw rest at l in
-    (omega (arith, length-drop i t), rw (rest, e) (get_or-drop i t k 0))
-
-pub byte_none : (t : List ℕ) (i k end : ℕ) → end ≡ i + k → length (take (length t - i) (drop i t)) ≤ k → i ≤ length t → length t ≤ end
-byte_none t i k end e l h =
-    let rest : take (length t - i) (drop i t) ≡ drop i t = take_all (length t - i) (drop i t) (omega (arith, length-drop i t)) in
-    omega (arith, length-drop i t, rw rest at l)
-
 module _ {t : List ℕ} {at value end : ℕ} (g : Digits t at value end) where
-  pub digits-done : length t ≤ end → NumberAt t at (record { value = value; end = end })
+  pub digits-done : length t ≤ end → NumberAt t at (record { value = value; end = length t })
   digits-done l =
+      let last : length t ≡ end = omega (arith, g.inside) in
       let z : drop end t ≡ [] = drop_of_length-le t {i = end} l in
-      record { is = g.left ∙ ap (digits_on value) z ∙ digits-end value ∙ ap (found value) (sym z); after = g.after; inside = g.inside }
+      rw last (record { is = g.left ∙ ap (digits_on value) z ∙ digits-end value ∙ ap (found value) (sym z); after = g.after; inside = g.inside })
 
-  module _ {byte : ℕ} (b : (end < length t) × (byte ≡ get_or t end 0)) where
-    l : end < length t
-    l = b.0
-
+  module _ (l : end < length t) where
     here : number (drop at t) ≡ digits_on value (get_or t end 0 ∷ drop (suc end) t)
     here = g.left ∙ ap (digits_on value) (drop-cons t end 0 l)
 
-    pub digits-read : 9 < digit_value byte → NumberAt t at (record { value = value; end = end })
+    pub digits-read : 9 < digit_value (get_or t end 0) → NumberAt t at (record { value = value; end = end })
     digits-read h = record {
-      is = here ∙ digits-stop value (get_or t end 0) (drop (suc end) t) (rw b.1 at h) ∙ ap (found value) (sym (drop-cons t end 0 l));
+      is = here ∙ digits-stop value (get_or t end 0) (drop (suc end) t) h ∙ ap (found value) (sym (drop-cons t end 0 l));
       after = g.after;
       inside = g.inside;
     }
 
-    module _ (d : ℕ) (e : (d ≡ digit_value byte) × (d ≤ 9)) where
-      is : d ≡ digit_value (get_or t end 0)
-      is = rw b.1 at e.0
-
+    module _ (d : ℕ) (e : (d ≡ digit_value (get_or t end 0)) × (d ≤ 9)) where
       digit : digit_value (get_or t end 0) ≤ 9
-      digit = rw is at e.1
+      digit = omega (arith, e.0, e.1)
 
       pub digits-leading : value ≡ 0 → number (drop at t) ≡ nothing
       digits-leading z =
@@ -88,12 +70,12 @@ module _ {t : List ℕ} {at value end : ℕ} (g : Digits t at value end) where
 
       module _ (n : ¬ (value ≡ 0)) where
         pub digits_above : most_number < 10 * value + d → number (drop at t) ≡ nothing
-        digits_above m = here ∙ digits-large value (get_or t end 0) (drop (suc end) t) digit n (rw is at m)
+        digits_above m = here ∙ digits-large value (get_or t end 0) (drop (suc end) t) digit n (rw e.0 at m)
 
         pub digits-on : 10 * value + d ≤ most_number → Digits t at (10 * value + d) (end + 1)
         digits-on m = record {
           after = omega (arith, g.after);
           inside = omega arith;
           most = m;
-          left = rw (add-one end, is) (here ∙ digits_more value (get_or t end 0) (drop (suc end) t) digit n (rw is at m));
+          left = rw (add-one end, e.0) (here ∙ digits_more value (get_or t end 0) (drop (suc end) t) digit n (rw e.0 at m));
         }

@@ -33,9 +33,8 @@ pub fn read_number(text: &[u8], at: usize) -> Option<Number>
 {
     let first = text.get(at)?;
     let mut value = digit_of(*first)?;
-    let mut end = at + 1;
-    for byte in &text[at + 1..] {
-        let Some(digit) = digit_of(*byte) else {
+    for end in at + 1..text.len() {
+        let Some(digit) = digit_of(text[end]) else {
             return Some(Number { value, end });
         };
         if value == 0 {
@@ -45,8 +44,8 @@ pub fn read_number(text: &[u8], at: usize) -> Option<Number>
         if MOST_NUMBER < value {
             return None;
         }
-        end += 1;
     }
+    let end = text.len();
     Some(Number { value, end })
 }
 

@@ -1,9 +1,9 @@
 -- Decimal digits: the recursion without its bound (decimal-small, decimal-large; decimal-induct), as many last digits as there are digits
--- (decimal-digits), and how many there are at most (decimal-most).
+-- (decimal-digits), how many there are at most (decimal-most), and how many there are by the power of ten below (decimal-power).
 use mathlib.Core.Path.{◌≡◌, refl, ap, sym, ◌∙◌}
 use mathlib.Core.List.{List, [], ◌∷◌, ◌++◌}
-use Prim.Native.Nat.{ℕ, zero, suc, ◌+◌, ◌/◌, ◌%◌, ◌^◌, ◌≤◌, ◌<◌}
-use native.Mathlib.Nat.{le_refl, pow-suc}
+use Prim.Native.Nat.{ℕ, zero, suc, ◌+◌, ◌*◌, ◌/◌, ◌%◌, ◌^◌, ◌≤◌, ◌<◌}
+use native.Mathlib.Nat.{le_refl, pow-suc, pow-succ', one-le-pow}
 use native.Mathlib.Decide.{dec_lt}
 use native.Mathlib.Omega.{arith}
 use lib.ListN.{length, length-append}
@@ -86,3 +86,9 @@ decimal-most (suc k) n h = go (dec_lt n 10) (λ b. decimal-most k (n / 10) (omeg
     go : Dec (n < 10) → (10 ≤ n → length (decimal (n / 10)) ≤ suc k) → length (decimal n) ≤ suc (suc k)
     go (yes b) next = rw (decimal-small n b) (omega arith)
     go (no b) next = let c : 10 ≤ n = omega arith in omega (arith, length-large n c, next c)
+
+pub decimal-power : (k n : ℕ) → 10 ^ k ≤ n → n < 10 * 10 ^ k → length (decimal n) ≡ suc k
+decimal-power zero n a b = rw (decimal-small n b) refl
+decimal-power (suc k) n a b =
+    let c : 10 ≤ n = omega (arith, pow-succ' k 10, one-le-pow k 10 (omega arith)) in
+    omega (arith, pow-succ' k 10, length-large n c, decimal-power k (n / 10) (omega (arith, pow-succ' k 10)) (omega (arith, pow-succ' k 10)))

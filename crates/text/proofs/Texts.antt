@@ -1,32 +1,26 @@
--- The loops that write text, over plain lists: digits counted (Counting) and written from the last one on (Spelling); bytes one after the other
+-- The loops that write text, over plain lists: digits counted (digits-counted) and written from the last one on (Spelling); bytes one after the other
 -- (copy_step); numbers with a byte before each (each_at) after a first one (list-first); and lines (line-length, line_wrote).
-use mathlib.Core.Path.{◌≡◌, refl, ap, sym, ◌∙◌}
+use mathlib.Core.Path.{◌≡◌, refl, sym, ◌∙◌}
 use mathlib.Core.List.{List, [], ◌∷◌, ◌++◌, append-nil}
-use Prim.Native.Nat.{ℕ, suc, ◌+◌, ◌-◌, ◌/◌, ◌%◌, ◌≤◌, ◌<◌}
+use Prim.Native.Nat.{ℕ, suc, ◌+◌, ◌-◌, ◌*◌, ◌/◌, ◌%◌, ◌^◌, ◌≤◌, ◌<◌}
 use native.Mathlib.Numerals.{add-one}
 use native.Mathlib.Omega.{arith}
 use lib.ListN.{length, drop, get_or, set, length-set, length-append, drop_of_length-le}
 use lib.Seq.{sets, drop-cons}
+use Rattle.std.specs.Prelude.{Option, Some, None, IfSome, IfNone}
+use Rattle.std.specs.Option.{unwrap_or}
 use Rattle.text.specs.Text.{decimal, each_after, list_by, comma_list, line}
 use Rattle.text.specs.Writing.{WroteAt, Wrote}
 use Rattle.text.specs.declared.Page.{Page}
 use Rattle.text.proofs.Stores.{sets_last, wrote_none, page-then}
-use Rattle.text.proofs.Decimals.{decimal-small, length-large, digits, length_digits, decimal-digits}
+use Rattle.text.proofs.Decimals.{decimal-small, decimal-power, digits, length_digits, decimal-digits}
 
 -- ---- the number of digits
 
-pub record Counting (number count rest : ℕ) : Type 0 where
-  pub digits : count + length (decimal rest) ≡ length (decimal number) + 1
-  pub few : count + rest ≤ number + 1
-
-pub count-start : (number : ℕ) → Counting number 1 number
-count-start number = record { digits = omega arith; few = omega arith }
-
-pub count-step : (number count rest : ℕ) → Counting number count rest → 9 < rest → Counting number (count + 1) (rest / 10)
-count-step number count rest g l = record { digits = omega (arith, g.digits, length-large rest l); few = omega (arith, g.few) }
-
-pub count-end : (number count rest : ℕ) → Counting number count rest → rest ≤ 9 → count ≡ length (decimal number)
-count-end number count rest g l = omega (arith, g.digits, ap length (decimal-small rest (omega arith)))
+pub digits-counted : (number : ℕ) {power : ℕ} (answer : Option ℕ) → IfNone answer (number ≡ 0) → IfSome answer (λ k. 10 ^ k ≤ number)
+    → IfSome answer (λ k. number < 10 * 10 ^ k) → power ≡ unwrap_or answer 0 → power + 1 ≡ length (decimal number)
+digits-counted number None z a b e = rw (decimal-small number (omega (arith, z))) (omega (arith, e))
+digits-counted number (Some k) z a b e = omega (arith, decimal-power k number a b, e)
 
 -- ---- digits: those that are left, stored in the buffer as it is, make the number stored in the buffer as it was
 

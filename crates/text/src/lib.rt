@@ -29,13 +29,8 @@ impl Separators {
 fn digit_count(number: u16) -> usize
     ensures { result ≡ length (decimal number) }
 {
-    let mut count: usize = 1;
-    let mut rest = number;
-    while 9 < rest {
-        count += 1;
-        rest /= 10;
-    }
-    count
+    let power = number.checked_ilog10().unwrap_or(0);
+    power as usize + 1
 }
 
 /// A lent buffer and the entry from which on it is written next.

@@ -1,12 +1,8 @@
--- A turn takes off one digit and counts it; the last one is counted at the start.
-use Rattle.text.proofs.Texts.{count-start, count-step, count-end}
+-- The power of ten that the number reaches says how many digits it has.
+use Rattle.text.proofs.Texts.{digits-counted}
 use Rattle.text.proofs.digit_count.Goals as goal
 
-pub loop-rest-init : goal.loop-rest-init
-loop-rest-init c = count-start _
-
-pub loop-rest-preserved : goal.loop-rest-preserved
-loop-rest-preserved c = count-step _ _ _ c.loop-rest.invariant c.loop-rest-test.true
-
 pub returns : goal.returns
-returns c = count-end _ _ _ c.loop-rest.invariant c.loop-rest-test.false
+returns c =
+    let e = c.checked_ilog10.ensures in
+    digits-counted _ c.checked_ilog10.result e.none e.power_le e.next_power_gt c.unwrap_or-power.ensures
