@@ -146,7 +146,6 @@ module _ {door : Door} {bytes es work₀ pairs₀ work pairs : List ℕ} {places
     -- the same, as the code lends the record and what is left of the result buffer
     pub lent-on : (a : Result ℕ Refusal) {n : ℕ} {work₁ left₁ : List ℕ}
         → (let w = part from (get_or es i 0) bytes in IcflDone (door w) w work (rest used pairs) (count_says a) work₁ left₁) → n ≡ used_entries (count_says a)
-       
         → Cutting door bytes es work₀ pairs₀ work₁ (take used pairs ++ (left₁ ++ drop (length pairs - used) (drop used pairs)))
         (set places i a) (get_or es i 0) (used + n)
         (i + 1)
