@@ -72,6 +72,7 @@ fn longest_at(word: &[u8], longest: &[u16], i: usize) -> usize
 }
 
 /// Writes the length of the longest Lyndon word at each place into the first entries of `longest`.
+#[inline(always)]
 pub fn fill_longest(word: &[u8], longest: &mut [u16])
     requires { LongestRoom word.now longest.old }
     ensures { LongestFilled word.now longest.new }
