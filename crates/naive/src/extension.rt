@@ -49,8 +49,8 @@ fn failing_at(word: &[u8], j: usize) -> Option<usize> {
     exceeds.then_some(j.saturating_add(k).saturating_add(1))
 }
 
-/// The same by the suffixes: the shortest prefix that one of its suffixes exceeds. A suffix that begins where one that
-/// was found ends exceeds no shorter one.
+/// The same by the suffixes: the shortest prefix that one of its suffixes exceeds. Past the end of a prefix that was found
+/// no suffix exceeds a shorter one.
 pub fn failing_by_suffixes(word: &[u8]) -> Option<Failing> {
     let mut shortest: Option<usize> = None;
     for j in 1..word.len() {

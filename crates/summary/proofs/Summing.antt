@@ -1,5 +1,5 @@
--- The tally of parts over plain lists: what it has of the parts before a, taken together with the parts that follow, is the definition's value for the
--- whole list (specs/Tallies). LongestSoFar, Banded and SummedUpTo each have a law for the start, for one more part, of length e - a, and for the end;
+-- Parts summed up, over plain lists: what sum_up or a tally has of the parts before a, taken together with the parts that follow, is the definition's value
+-- for the whole list (specs/Tallies). LongestSoFar, Banded and SummedUpTo each have a law for one more part, of length e - a, and for the end;
 -- at the end of this file they are those of the tally itself.
 use mathlib.Core.Path.{◌≡◌, sym, ◌∙◌}
 use mathlib.Core.Logic.{◌⊎◌, inl, inr}
