@@ -37,9 +37,12 @@ pub fn latest(pairs: &[u16], size: usize) -> Option<usize> {
         .map(|k| part_start(pairs, k))
 }
 
-// How many binary digits a length has.
+// How many binary digits a length has, which is below 65,536: how many of its shifts are not 0. The library counts the
+// zeros before them.
 fn digits(length: usize) -> usize {
-    (usize::BITS - length.leading_zeros()) as usize
+    (0..u16::BITS)
+        .filter(|k| length.checked_shr(*k).unwrap_or(0) != 0)
+        .count()
 }
 
 /// How many parts have a length of that many binary digits.

@@ -71,7 +71,9 @@ fn longest_at(word: &[u8], longest: &[u16], i: usize) -> usize
     }
 }
 
-/// Writes the length of the longest Lyndon word at each place into the first entries of `longest`.
+/// Writes the length of the longest Lyndon word at each place into the first entries of `longest`. A record of many marks
+/// has as many stretches: a call for each of them takes a third of the time that the repetitions take there.
+#[inline(always)]
 pub fn fill_longest(word: &[u8], longest: &mut [u16])
     requires { LongestRoom word.now longest.old }
     ensures { LongestFilled word.now longest.new }

@@ -49,8 +49,20 @@ fn failing_at(word: &[u8], j: usize) -> Option<usize> {
     exceeds.then_some(j.saturating_add(k).saturating_add(1))
 }
 
-/// The same by the suffixes: the shortest prefix that one of its suffixes exceeds.
+/// The same by the suffixes: the shortest prefix that one of its suffixes exceeds. Past the end of a prefix that was found
+/// no suffix exceeds a shorter one.
 pub fn failing_by_suffixes(word: &[u8]) -> Option<Failing> {
-    let length = (1..word.len()).filter_map(|j| failing_at(word, j)).min()?;
-    parts_of(word, length)
+    let mut shortest: Option<usize> = None;
+    for j in 1..word.len() {
+        if let Some(length) = shortest {
+            if length <= j {
+                break;
+            }
+        }
+        shortest = match (shortest, failing_at(word, j)) {
+            (Some(a), Some(b)) => Some(a.min(b)),
+            (one, other) => one.or(other),
+        };
+    }
+    parts_of(word, shortest?)
 }

@@ -30,23 +30,17 @@ pub struct Compared {
     pub common: usize,
 }
 
-impl Compared {
-    // The comparison of two words, where the first n letters agree and no more.
-    fn after(x: &[u8], y: &[u8], n: usize) -> Compared {
-        let order = if is_before(x, y, n) {
-            Ordering::Less
-        } else if is_before(y, x, n) {
-            Ordering::Greater
-        } else {
-            Ordering::Equal
-        };
-        Compared { order, common: n }
-    }
-}
-
-/// The comparison of two words, letter by letter.
+/// The comparison of two words, letter by letter: by the first letters that differ, or by length.
 pub fn compare_letters(x: &[u8], y: &[u8]) -> Compared {
-    Compared::after(x, y, agreeing(x, y))
+    let parted = x.iter().zip(y).find(|(a, b)| **a != **b);
+    let order = match parted {
+        Some((a, b)) => b.cmp(a),
+        None => x.len().cmp(&y.len()),
+    };
+    Compared {
+        order,
+        common: agreeing(x, y),
+    }
 }
 
 /// The longest common prefix of two words, tried from the longest down.
@@ -59,5 +53,13 @@ pub fn common(x: &[u8], y: &[u8]) -> usize {
 
 /// The comparison of two words by their longest common prefix.
 pub fn compare_words(x: &[u8], y: &[u8]) -> Compared {
-    Compared::after(x, y, common(x, y))
+    let n = common(x, y);
+    let order = if is_before(x, y, n) {
+        Ordering::Less
+    } else if is_before(y, x, n) {
+        Ordering::Greater
+    } else {
+        Ordering::Equal
+    };
+    Compared { order, common: n }
 }

@@ -17,28 +17,34 @@ pub fn strict_by_suffixes(word: &[u8]) -> List {
     ends
 }
 
-// The length of the longest anti-Lyndon prefix; `lengths` has that of each proper suffix, the shortest first. From a
-// suffix that the word comes before, the next one that may come before the word is where that prefix of it ends.
-fn first_length(word: &[u8], lengths: &[u16]) -> usize {
-    let mut length: usize = 1;
-    while length < word.len() {
-        let suffix = tail(word, length);
-        if inverse_before(suffix, word) {
-            return length;
-        }
-        let next = entry(lengths, suffix.len().saturating_sub(1));
-        length = length.saturating_add(next.max(1));
+// Every entry is the rest of the word, the answer for a place that no suffix after it comes before.
+fn rests(word: &[u8]) -> List {
+    let mut lengths = List::new();
+    for i in 0..word.len() {
+        lengths.push(word.len().saturating_sub(i));
     }
-    word.len()
+    lengths
+}
+
+// Takes from the stack of open places those that the suffix at i comes before, and sets their lengths.
+fn settle(word: &[u8], lengths: &mut List, open: &mut List, i: usize) {
+    for k in (0..open.as_slice().len()).rev() {
+        let place = entry(open.as_slice(), k);
+        if !inverse_before(tail(word, i), tail(word, place)) {
+            return;
+        }
+        lengths.set(place, i.saturating_sub(place));
+        open.pop();
+    }
 }
 
 /// The start table.
 pub fn starts_by_suffixes(word: &[u8]) -> List {
-    let mut lengths = List::new();
-    for i in (0..word.len()).rev() {
-        let length = first_length(tail(word, i), lengths.as_slice());
-        lengths.push(length);
+    let mut lengths = rests(word);
+    let mut open = List::new();
+    for i in 0..word.len() {
+        settle(word, &mut lengths, &mut open, i);
+        open.push(i);
     }
-    lengths.reverse();
     lengths
 }

@@ -3,10 +3,11 @@
 -- on just where what is left is from the last end on.
 use mathlib.Core.Path.{◌≡◌, refl, ap, sym, ◌∙◌}
 use mathlib.Core.Bool.{Bool, true, false, not, ◌||◌, true≢false}
-use mathlib.Core.List.{List, [], ◌∷◌, ◌++◌}
-use Prim.Native.Nat.{ℕ, suc, ◌+◌, ◌-◌, ◌%◌, ◌≤◌, ◌<◌}
+use mathlib.Core.List.{List, [], ◌∷◌}
+use Prim.Native.Nat.{ℕ, suc, ◌+◌, ◌-◌, ◌*◌, ◌/◌, ◌%◌, ◌≤◌, ◌<◌}
 use native.Mathlib.Omega.{arith}
-use lib.ListN.{length, get_or}
+use lib.ListN.{length, drop, get_or}
+use lib.Seq.{drop-cons}
 use lib.Dec.{eqb, ltb}
 use Rattle.std.proofs.lemmas.List.{nil_from_length}
 use borrow.Author.Tests.{ltb-false, le-ltb, ne_eqb, eqb-false}
@@ -99,15 +100,15 @@ paired-head (more h p q r) = (h, p, q, r)
 paired-last : {n b : ℕ} → Paired n b [] → b ≡ n
 paired-last (done z) = z
 
-two-are : (xs : List ℕ) → length xs ≡ 2 → xs ≡ get_or xs 0 0 ∷ get_or xs 1 0 ∷ []
-two-are [] e = absurd (omega arith)
-two-are (a ∷ []) e = absurd (omega arith)
-two-are (a ∷ b ∷ []) e = refl
-two-are (a ∷ b ∷ c ∷ xs) e = absurd (omega arith)
-
-pub pair-taken : {left left' : List ℕ} {end count : ℕ} (pair : List ℕ) → left ≡ pair ++ left' → length pair ≡ 2
-    → end ≡ get_or pair 0 0 → count ≡ get_or pair 1 0 → left ≡ end ∷ count ∷ left'
-pair-taken {left' = left'} pair e two f k = e ∙ ap (λ (t : List ℕ). t ++ left') (two-are pair two) ∙ rw (f, k)
+-- the next pair of a list, before those that come after it
+pub two-left : (ps : List ℕ) (k : ℕ) → k < length ps / 2 → drop (2 * k) ps ≡ get_or ps (2 * k) 0 ∷ get_or ps (2 * k + 1) 0 ∷ drop (2 * (k + 1)) ps
+two-left ps k l =
+    let s : 2 * k + 1 ≡ suc (2 * k) = omega arith in
+    let t : 2 * (k + 1) ≡ suc (suc (2 * k)) = omega arith in
+    rw (s, t) (
+    drop-cons ps (2 * k) 0 (omega arith)
+    ∙ ap (λ (u : List ℕ). get_or ps (2 * k) 0 ∷ u) (drop-cons ps (suc (2 * k)) 0 (omega arith))
+    )
 
 module _ {n : ℕ} {ps : List ℕ} {last : ℕ} {left : List ℕ} (g : PairsLeft n ps last left) where
   module _ {end count : ℕ} {left' : List ℕ} (next : left ≡ end ∷ count ∷ left') where

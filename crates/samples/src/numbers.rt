@@ -6,9 +6,9 @@ use access::{List, pair_with_ones, part_length};
 /// it. Each use takes neighbours of this order.
 pub fn about(a: usize, b: usize) -> [usize; 8] {
     let below_b = b.saturating_sub(1);
-    let above_b = b.saturating_add(1);
+    let above_b = b.wrapping_add(1);
     [
-        a.saturating_add(1),
+        a.wrapping_add(1),
         0,
         below_b,
         b,

@@ -19,16 +19,9 @@ use Rattle.theory.specs.Scan.Scanned.{scanned-one, scanned-longest, scanned-afte
 use Rattle.scan.specs.declared.Scan.{Scan}
 use Rattle.scan.specs.State.{start_state, Resumes, Rests}
 use Rattle.strict.specs.declared.Run.{Run}
-use Rattle.strict.specs.Walk.{ends_left, FactorAt, Repeats}
+use Rattle.strict.specs.Walk.{ends_left, RunAt, alone, repeated, FactorAt, Repeats}
 
 -- ---- one factor, and its repetitions
-
--- the first factor from a place on has r.length letters, and so has each after it that begins before r.until: it is a separator, or a scan from there has
--- stopped, in which the separator is a letter as any other
-pub data RunAt (w : List ℕ) (from : ℕ) (r : Run) : Type 0 where
-  alone : get_or w from 0 ≡ separator → r.length ≡ 1 → r.until ≡ from + 1 → RunAt w from r
-  repeated : get_or w from 0 < separator → from < r.until
-      → Rests (drop from w) (record { border = r.until - 1 - from; length = r.until - 1 - from + r.length }) → RunAt w from r
 
 -- a repetition stops where the first one does
 stops-after : (v : List ℕ) (b p : ℕ) → Stops v (b + p) b → p ≤ b → Stops (drop p v) b (b - p)

@@ -7,7 +7,7 @@ ghost use Rattle.std.specs.Iterator.{YieldsFirst, item_count};
 ghost use Rattle.buffers.specs.Buffers.{written};
 ghost use Rattle.words.specs.Words.{most_letters};
 ghost use Rattle.words.specs.Separated.{separated_cfl_in_ends};
-ghost use Rattle.strict.specs.Walk.{Repeats};
+ghost use Rattle.strict.specs.Walk.{RunAt, Repeats};
 
 use scan::Scan;
 
@@ -27,6 +27,8 @@ fn run_at(word: &[u8], from: usize, known: Run) -> Run
     requires right { Repeats word.now from known }
     ensures begins { from < result.until }
     ensures right { Repeats word.now from result }
+    ensures kept { from < known.until → result ≡ known }
+    ensures found { known.until ≤ from → RunAt word.now from result }
 {
     if from < known.until {
         return known;

@@ -1,5 +1,5 @@
--- The tally of parts over plain lists: what it has of the parts before a, taken together with the parts that follow, is the definition's value for the
--- whole list (specs/Tallies). LongestSoFar, Banded and SummedUpTo each have a law for the start, for one more part, of length e - a, and for the end;
+-- Parts summed up, over plain lists: what sum_up or a tally has of the parts before a, taken together with the parts that follow, is the definition's value
+-- for the whole list (specs/Tallies). LongestSoFar, Banded and SummedUpTo each have a law for one more part, of length e - a, and for the end;
 -- at the end of this file they are those of the tally itself.
 use mathlib.Core.Path.{◌≡◌, sym, ◌∙◌}
 use mathlib.Core.Logic.{◌⊎◌, inl, inr}
@@ -97,12 +97,16 @@ banded-end es bands a g =
 
 module _ {es bands : List ℕ} {longest from last i : ℕ} (g : SummedUpTo es longest from bands last i) where
   -- another part can be counted
-  summed-room : (k : ℕ) → k < 13 → get_or bands k 0 ≤ length es
+  pub summed-room : (k : ℕ) → k < 13 → get_or bands k 0 ≤ length es
   summed-room k l = omega (arith, g.bands-are.counts k l, count_most (suc k) 0 es)
 
   module _ (l : i < length es) where
-    summed-above : Summable es → last < get_or es i 0
-    summed-above s = rw g.last-is (s.rising i l)
+    pub summed-above : Summable es → {end : ℕ} → end ≡ get_or es i 0 → last < end
+    summed-above s e = rw (e, g.last-is) (s.rising i l)
+
+    -- the band in which the next part is counted
+    pub summed-band : Summable es → {end d : ℕ} → end ≡ get_or es i 0 → d ≡ bit_length_of (end - last) → (1 ≤ d) × (d ≤ 13)
+    summed-band s e b = rw b (bit-length-some _ (omega (arith, summed-above s e)), bit-length-most _ (omega (arith, s.short i, e)))
 
     next-longest : LongestSoFar es longest from last (get_or es i 0 ∷ drop (suc i) es)
     next-longest = rw (drop-cons es i 0 l) at g.longest-is
@@ -121,11 +125,11 @@ module _ {es bands : List ℕ} {longest from last i : ℕ} (g : SummedUpTo es lo
     }
 
     -- the same, with the end as it was read
-    summed-on : {end m f digits : ℕ} → end ≡ get_or es i 0 → last < end → Chosen (end - last) longest from last m f
+    pub summed-on : {end m f digits : ℕ} → end ≡ get_or es i 0 → last < end → Chosen (end - last) longest from last m f
         → digits ≡ bit_length_of (end - last) → 0 < digits → SummedUpTo es m f (counted_at (digits - 1) bands) end (i + 1)
     summed-on e above x b p = rw e (summed-next (rw e at above) (rw e at x) (rw e at b) p)
 
-  summed-end : length es ≤ i → record { count = i; longest = longest; from = from; bands = bands } ≡ summary_of es
+  pub summed-end : length es ≤ i → record { count = i; longest = longest; from = from; bands = bands } ≡ summary_of es
   unfolding summary_of lengths_from greatest
   summed-end l =
       let none = drop_of_length-le es {i = i} l in
@@ -146,10 +150,10 @@ pub record Weighed (t : Tally) (size : ℕ) (s : Tally) : Type 0 where
 
 module _ {es : List ℕ} {t : Tally} {end : ℕ} (n : NextEnd es t end) where
   pub tally-above : t.last < end
-  tally-above = rw n.is (summed-above n.tallied.summed n.some n.summable)
+  tally-above = summed-above n.tallied.summed n.some n.summable n.is
 
   pub tally-band : {d : ℕ} → d ≡ bit_length_of (end - t.last) → (1 ≤ d) × (d ≤ 13)
-  tally-band b = rw b (bit-length-some _ (omega (arith, tally-above)), bit-length-most _ (omega (arith, n.summable.short t.summary.count, n.is)))
+  tally-band b = summed-band n.tallied.summed n.some n.summable n.is b
 
   module _ {s : Tally} (w : Weighed t (end - t.last) s) where
     pub tally-room : (k : ℕ) → k < 13 → get_or s.summary.bands k 0 < 65535

@@ -1,5 +1,5 @@
--- The loops that write text, over plain lists: digits counted (digits-counted) and written from the last one on (Spelling); bytes one after the other
--- (copy_step); numbers with a byte before each (each_at) after a first one (list-first); and lines (line-length, line_wrote).
+-- The loops that write text, over plain lists: digits counted (digits-counted) and written from the last one on (Spelling); numbers with a byte before each
+-- (each_at) after a first one (list-first); and lines (line-length, line-wrote).
 use mathlib.Core.Path.{◌≡◌, refl, sym, ◌∙◌}
 use mathlib.Core.List.{List, [], ◌∷◌, ◌++◌, append-nil}
 use Prim.Native.Nat.{ℕ, suc, ◌+◌, ◌-◌, ◌*◌, ◌/◌, ◌%◌, ◌^◌, ◌≤◌, ◌<◌}

@@ -1,20 +1,19 @@
 -- Each turn takes one pair whose count is not 0 and reaches no further from the last end than its own end; the list passes where the last end is the length.
 use mathlib.Core.Path.{◌≡◌, sym, ◌∙◌}
 use mathlib.Core.List.{◌∷◌}
+use Prim.Native.Nat.{◌+◌, ◌*◌}
 use native.Mathlib.Omega.{arith}
+use lib.ListN.{drop, length-drop}
 use borrow.Author.Tests.{eqb-true, eqb-false}
-use Rattle.std.specs.Slice.Iter.{chunks_exact_rest}
-use Rattle.pairs.proofs.PairsLaws.{pairs_none, pairs-odd, pair-taken, count_none, count-past, pairs-on, pairs_end}
+use Rattle.pairs.proofs.PairsLaws.{pairs_none, pairs-odd, two-left, count_none, count-past, pairs-on, pairs_end}
 use Rattle.pairs.proofs.faulty_pairs.Goals as goal
 use Rattle.pairs.proofs.faulty_pairs.Goals.{then-is_empty-via-then-is_empty, then-is_empty-via-else-is_empty+then-pairs-eq1}
 use Rattle.pairs.proofs.faulty_pairs.Goals.{then-count-eq0-via-then-count-eq0, then-count-eq0-via-else-count-eq0+then-end-last}
 use Rattle.pairs.proofs.faulty_pairs.Goals.{After-from-count}
 
-taken : (c : After-from-count)
-    → chunks_exact_rest c.loop-pair.pair-iterator ≡ c.from-end.result ∷ c.from-count.result ∷ chunks_exact_rest c.next.new.self
-taken c =
-    let got = c.in-Some.ensures.steps.1 in
-    pair-taken _ got.0 (got.1 ∙ c.loop-pair.invariant.1) c.from-end.ensures c.from-count.ensures
+-- the pair that is next, before those that come after it
+taken : (c : After-from-count) → drop (2 * c.loop-k.k) c.args.pairs.now ≡ c.from-end.result ∷ c.from-count.result ∷ drop (2 * (c.loop-k.k + 1)) c.args.pairs.now
+taken c = rw (c.from-end.ensures, c.from-count.ensures) (two-left c.args.pairs.now c.loop-k.k c.loop-k-test.true)
 
 pub returns-then-is_empty : goal.returns-then-is_empty
 returns-then-is_empty c =
@@ -27,19 +26,16 @@ pub returns-then-count-eq0 : goal.returns-then-count-eq0
 returns-then-count-eq0 c =
     let next = taken (goal.at.returns-then-count-eq0 c).After-from-count in
     elim c.then-count-eq0.branch [
-      | then-count-eq0-via-then-count-eq0 w ↦ count_none c.loop-pair.invariant.0 next w.if-count-eq0.true
-      | then-count-eq0-via-else-count-eq0+then-end-last w ↦ count-past c.loop-pair.invariant.0 next w.if-end-last.true
+      | then-count-eq0-via-then-count-eq0 w ↦ count_none c.loop-k.invariant.0 next w.if-count-eq0.true
+      | then-count-eq0-via-else-count-eq0+then-end-last w ↦ count-past c.loop-k.invariant.0 next w.if-end-last.true
     ]
 
-pub loop-pair-preserved : goal.loop-pair-preserved
-loop-pair-preserved c =
-    let next = taken (goal.at.loop-pair-preserved c).After-from-count in (
-      pairs-on c.loop-pair.invariant.0 next c.if-count-eq0.false c.if-end-last.false,
-      c.in-Some.ensures.steps.0 ∙ c.loop-pair.invariant.1,
-      omega arith,
-    )
+pub loop-k-preserved : goal.loop-k-preserved
+loop-k-preserved c =
+    let next = taken (goal.at.loop-k-preserved c).After-from-count in
+    (pairs-on c.loop-k.invariant.0 next c.if-count-eq0.false c.if-end-last.false, omega arith)
 
 pub returns : goal.returns
 returns c =
     let some = eqb-false _ _ (sym c.is_empty.ensures ∙ c.if-is_empty.false) in
-    pairs_end c.loop-pair.invariant.0 (omega (arith, c.in-None.ensures.steps.1.0, c.loop-pair.invariant.1)) some
+    pairs_end c.loop-k.invariant.0 (omega (arith, length-drop (2 * c.loop-k.k) c.args.pairs.now, c.loop-k-test.false)) some

@@ -8,8 +8,9 @@ use Rattle.strict.proofs.run_at.Goals as goal
 
 pub returns-then-word-from : goal.returns-then-word-from
 returns-then-word-from c =
-    let t = run-repeats (run_alone c.args.word.now c.args.from c.if-word-from.true) c.requires.inside in
-    record { begins = t.0; right = t.1 }
+    let run = run_alone c.args.word.now c.args.from c.if-word-from.true in
+    let t = run-repeats run c.requires.inside in
+    record { begins = t.0; right = t.1; kept = λ l. absurd (omega (arith, l, c.if-from-known.false)); found = λ l. run }
 
 pub scan_on-s-requires : goal.scan_on-s-requires
 scan_on-s-requires c =
@@ -20,5 +21,6 @@ returns c =
     let w = c.args.word.now in
     let from = c.args.from in
     let below : get_or w from 0 < separator = omega (arith, c.type_inv.word from, c.if-word-from.false) in
-    let t = run-repeats (run-scanned w from _ below c.scan_on-s.ensures) c.requires.inside in
-    record { begins = t.0; right = t.1 }
+    let run = run-scanned w from _ below c.scan_on-s.ensures in
+    let t = run-repeats run c.requires.inside in
+    record { begins = t.0; right = t.1; kept = λ l. absurd (omega (arith, l, c.if-from-known.false)); found = λ l. run }
