@@ -10,6 +10,6 @@ mod calls; // the calls by name
 
 pub use calls::{CALLS, Call, TwoStarts};
 pub use entries::{SEPARATOR, entry, front, part, tail};
-pub use lists::{BREAK_ENTRIES, ENTRIES, List, PAIR_ENTRIES, limited};
+pub use lists::{BREAK_ENTRIES, Breaks, ENTRIES, Ends, List, PAIR_ENTRIES, Pairs, limited};
 pub use pairing::{pair_with_ones, pair_with_strict};
 pub use parts::{in_band, latest, longest, part_count, part_end, part_length, part_start};

@@ -15,25 +15,35 @@ pub fn limited(number: usize) -> u16 {
     u16::try_from(number).unwrap_or(u16::MAX)
 }
 
-/// A list of numbers. There is no heap here, so it is a buffer with a count and no Vec.
+/// A list of at most N numbers. There is no heap here, so it is a buffer with a count and no Vec; it is set to 0 and copied
+/// whole, so a list is no larger than it has to be.
 #[derive(Drop)]
-pub struct List {
-    entries: [u16; BREAK_ENTRIES],
+pub struct List<const N: usize> {
+    entries: [u16; N],
     count: usize,
 }
 
-impl List {
+/// A list with an entry for each letter.
+pub type Ends = List<ENTRIES>;
+
+/// A list with two.
+pub type Pairs = List<PAIR_ENTRIES>;
+
+/// A list of breaks.
+pub type Breaks = List<BREAK_ENTRIES>;
+
+impl<const N: usize> List<N> {
     /// The empty list.
-    pub fn new() -> List {
+    pub fn new() -> List<N> {
         List {
-            entries: [0; BREAK_ENTRIES],
+            entries: [0; N],
             count: 0,
         }
     }
 
     /// Adds an entry, 65,535 for a greater number; nothing where there is no room.
     pub fn push(&mut self, value: usize) {
-        if self.count < BREAK_ENTRIES {
+        if self.count < N {
             self.entries[self.count] = limited(value);
             self.count += 1;
         }
@@ -48,7 +58,7 @@ impl List {
 
     /// Changes the entry at a place; past the end nothing.
     pub fn set(&mut self, at: usize, value: usize) {
-        if at < self.count && at < BREAK_ENTRIES {
+        if at < self.count && at < N {
             self.entries[at] = limited(value);
         }
     }
@@ -65,7 +75,7 @@ impl List {
 
     /// Turns the entries about, the last one first.
     pub fn reverse(&mut self) {
-        let count = self.count.min(BREAK_ENTRIES);
+        let count = self.count.min(N);
         self.entries[..count].reverse();
     }
 }

@@ -1,9 +1,9 @@
 //! Paired lists (request 108) made of lists of ends: beside each end a count.
-use super::lists::List;
+use super::lists::Pairs;
 
 /// Beside each end 1.
-pub fn pair_with_ones(ends: &[u16]) -> List {
-    let mut pairs = List::new();
+pub fn pair_with_ones(ends: &[u16]) -> Pairs {
+    let mut pairs = Pairs::new();
     for end in ends {
         pairs.extend(&[usize::from(*end), 1]);
     }
@@ -11,8 +11,8 @@ pub fn pair_with_ones(ends: &[u16]) -> List {
 }
 
 /// Beside each piece's end the number of strict pieces inside, whose ends lie after the end before and not after this.
-pub fn pair_with_strict(ends: &[u16], strict: &[u16]) -> List {
-    let mut pairs = List::new();
+pub fn pair_with_strict(ends: &[u16], strict: &[u16]) -> Pairs {
+    let mut pairs = Pairs::new();
     let mut from = 0;
     for end in ends {
         let to = *end;

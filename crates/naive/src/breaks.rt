@@ -4,7 +4,7 @@
 //! and |r| less the joined piece's length where it does not.
 use super::extension::Failing;
 use super::ways::Way;
-use access::{List, entry, tail};
+use access::{Breaks, entry, tail};
 
 // The last two entries of a break, where this is left and begins with p r.
 fn last_entries<W: Way>(rest: &[u8], found: Failing) -> [usize; 2] {
@@ -18,8 +18,8 @@ fn last_entries<W: Way>(rest: &[u8], found: Failing) -> [usize; 2] {
 }
 
 /// The breaks, each rest tested and cut in one of the ways.
-pub fn breaks<W: Way>(word: &[u8]) -> List {
-    let mut list = List::new();
+pub fn breaks<W: Way>(word: &[u8]) -> Breaks {
+    let mut list = Breaks::new();
     let mut begun: usize = 0;
     while begun < word.len() {
         let rest = tail(word, begun);

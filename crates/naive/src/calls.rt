@@ -1,22 +1,21 @@
 //! What those calls that are lent buffers answer on a record without marks, as lists of numbers.
-use super::breaks::breaks;
 use super::extension::Failing;
 use super::ways::Way;
-use access::{Call, List};
+use access::{Breaks, Call, Ends, Pairs};
 
 /// What such a call answers: its list, and the breaks beside it.
 #[derive(Drop)]
 pub struct Answer {
-    pub list: List,
-    pub breaks: List,
+    pub list: Pairs,
+    pub breaks: Breaks,
 }
 
 impl Answer {
     /// An answer without breaks.
-    pub fn unbroken(list: List) -> Answer {
+    pub fn unbroken(list: Pairs) -> Answer {
         Answer {
             list,
-            breaks: List::new(),
+            breaks: Breaks::new(),
         }
     }
 }
@@ -41,23 +40,21 @@ pub fn needed(call: Call, n: usize, list: usize, breaks: usize) -> Room {
 }
 
 // The test's answer as a list: empty for an inverse Lyndon word, else L, |p| and |r|.
-fn verdict(failing: Option<Failing>) -> List {
-    let mut list = List::new();
+fn verdict(failing: Option<Failing>) -> Ends {
+    let mut list = Ends::new();
     if let Some(found) = failing {
         list.extend(&[found.length, found.prefix, found.border]);
     }
     list
 }
 
-/// The list that a call answers on a record without marks, of the piece cut the ends alone, of the one with breaks
-/// these alone.
-pub fn list_of<W: Way>(call: Call, word: &[u8]) -> List {
+/// The list that a call answers on a record without marks, of the piece cut the ends alone. The breaks are no such list.
+pub fn list_of<W: Way>(call: Call, word: &[u8]) -> Ends {
     match call {
         Call::Test => verdict(W::failing(word)),
         Call::Pieces => W::pieces(word),
-        Call::Breaks => breaks::<W>(word),
         Call::Strict => W::strict(word),
         Call::Starts => W::starts(word),
-        Call::Compare | Call::Common | Call::Part | Call::Summary => List::new(),
+        _ => Ends::new(),
     }
 }

@@ -2,9 +2,12 @@
 //! table. A stretch is what stands between two neighbouring marks, or between a mark and an edge of the record. Each
 //! one that is not empty is cut as a record by itself, and what is found is then put in the record's places. Until the
 //! pieces are paired, the list of the piece cut has its ends alone, and that of the cut with breaks these.
+use super::breaks::breaks;
 use super::calls::{Answer, list_of};
 use super::ways::Way;
-use access::{Call, List, SEPARATOR, pair_with_strict};
+use access::{
+    BREAK_ENTRIES, Call, ENTRIES, List, PAIR_ENTRIES, Pairs, SEPARATOR, pair_with_strict,
+};
 
 /// Whether a call refuses the record for a mark: the test alone does.
 pub fn refuses_separator(call: Call, word: &[u8]) -> bool {
@@ -21,19 +24,32 @@ fn growth(call: Call, k: usize, from: usize) -> usize {
     }
 }
 
-// Writes the entries of the stretch that begins at `from`, in the record's places; an empty one has none.
-fn write_stretch<W: Way>(call: Call, stretch: &[u8], from: usize, list: &mut List) {
-    if stretch.is_empty() {
-        return;
-    }
-    let found = list_of::<W>(call, stretch);
-    for (k, entry) in found.as_slice().iter().enumerate() {
+// Writes the entries that were found in the stretch that begins at `from`, in the record's places.
+fn write_found<const N: usize>(call: Call, found: &[u16], from: usize, list: &mut List<N>) {
+    for (k, entry) in found.iter().enumerate() {
         list.push(usize::from(*entry).saturating_add(growth(call, k, from)));
     }
 }
 
+// Writes the entries of the stretch that begins at `from`; an empty one has none.
+fn write_stretch<W: Way, const N: usize>(
+    call: Call,
+    stretch: &[u8],
+    from: usize,
+    list: &mut List<N>,
+) {
+    if stretch.is_empty() {
+        return;
+    }
+    if call == Call::Breaks {
+        write_found(call, breaks::<W>(stretch).as_slice(), from, list);
+    } else {
+        write_found(call, list_of::<W>(call, stretch).as_slice(), from, list);
+    }
+}
+
 // Writes the entry of the mark at a place: its end, or its length; it has no break.
-fn write_mark(call: Call, at: usize, list: &mut List) {
+fn write_mark<const N: usize>(call: Call, at: usize, list: &mut List<N>) {
     match call {
         Call::Pieces | Call::Strict => list.push(at.saturating_add(1)),
         Call::Starts => list.push(1),
@@ -42,11 +58,11 @@ fn write_mark(call: Call, at: usize, list: &mut List) {
 }
 
 // The list of a record, stretch by stretch.
-fn list_with_marks<W: Way>(call: Call, word: &[u8]) -> List {
+fn list_with_marks<W: Way, const N: usize>(call: Call, word: &[u8]) -> List<N> {
     let mut list = List::new();
     let mut from: usize = 0;
     for stretch in word.split(|letter| *letter == SEPARATOR) {
-        write_stretch::<W>(call, stretch, from, &mut list);
+        write_stretch::<W, N>(call, stretch, from, &mut list);
         let to = from.saturating_add(stretch.len());
         if to < word.len() {
             write_mark(call, to, &mut list);
@@ -57,21 +73,21 @@ fn list_with_marks<W: Way>(call: Call, word: &[u8]) -> List {
 }
 
 // The pieces, beside each end the number of strict pieces inside.
-fn pairs<W: Way>(word: &[u8]) -> List {
-    let pieces = list_with_marks::<W>(Call::Pieces, word);
-    let strict = list_with_marks::<W>(Call::Strict, word);
+fn pairs<W: Way>(word: &[u8]) -> Pairs {
+    let pieces = list_with_marks::<W, ENTRIES>(Call::Pieces, word);
+    let strict = list_with_marks::<W, ENTRIES>(Call::Strict, word);
     pair_with_strict(pieces.as_slice(), strict.as_slice())
 }
 
 /// What a call that is lent buffers answers, nothing for the others, nor for a record that the call refuses for a mark.
 pub fn answer<W: Way>(call: Call, word: &[u8]) -> Answer {
     match call {
-        _ if refuses_separator(call, word) => Answer::unbroken(List::new()),
+        _ if refuses_separator(call, word) => Answer::unbroken(Pairs::new()),
         Call::Pieces => Answer::unbroken(pairs::<W>(word)),
         Call::Breaks => Answer {
             list: pairs::<W>(word),
-            breaks: list_with_marks::<W>(call, word),
+            breaks: list_with_marks::<W, BREAK_ENTRIES>(call, word),
         },
-        _ => Answer::unbroken(list_with_marks::<W>(call, word)),
+        _ => Answer::unbroken(list_with_marks::<W, PAIR_ENTRIES>(call, word)),
     }
 }

@@ -1,7 +1,7 @@
 //! The strict cut and the start table by the longest anti-Lyndon prefix, tried from the longest down.
 use super::cutting::cut_by;
 use super::order::inverse_before;
-use access::{List, front, tail};
+use access::{Ends, front, tail};
 
 // Whether a word is anti-Lyndon: nonempty, and before each proper suffix in the inverse order.
 fn is_anti_lyndon(word: &[u8]) -> bool {
@@ -17,13 +17,13 @@ fn longest_anti_lyndon(word: &[u8]) -> usize {
 }
 
 /// The ends of the strict cut: the longest anti-Lyndon prefix, then that of what follows.
-pub fn strict_by_longest(word: &[u8]) -> List {
+pub fn strict_by_longest(word: &[u8]) -> Ends {
     cut_by(word, longest_anti_lyndon)
 }
 
 /// The start table: the longest anti-Lyndon prefix at each place.
-pub fn starts_by_longest(word: &[u8]) -> List {
-    let mut lengths = List::new();
+pub fn starts_by_longest(word: &[u8]) -> Ends {
+    let mut lengths = Ends::new();
     for i in 0..word.len() {
         lengths.push(longest_anti_lyndon(tail(word, i)));
     }

@@ -1,11 +1,11 @@
 //! The strict cut and the start table by suffixes of the whole word: a longest anti-Lyndon word ends where the next
 //! suffix begins that comes before the suffix at its start.
 use super::order::inverse_before;
-use access::{List, entry, tail};
+use access::{Ends, entry, tail};
 
 /// The ends of the strict cut: the starts of the suffixes that come before all longer ones, and the length.
-pub fn strict_by_suffixes(word: &[u8]) -> List {
-    let mut ends = List::new();
+pub fn strict_by_suffixes(word: &[u8]) -> Ends {
+    let mut ends = Ends::new();
     let mut last = 0;
     for j in 1..word.len() {
         if inverse_before(tail(word, j), tail(word, last)) {
@@ -18,8 +18,8 @@ pub fn strict_by_suffixes(word: &[u8]) -> List {
 }
 
 // Every entry is the rest of the word, the answer for a place that no suffix after it comes before.
-fn rests(word: &[u8]) -> List {
-    let mut lengths = List::new();
+fn rests(word: &[u8]) -> Ends {
+    let mut lengths = Ends::new();
     for i in 0..word.len() {
         lengths.push(word.len().saturating_sub(i));
     }
@@ -27,7 +27,7 @@ fn rests(word: &[u8]) -> List {
 }
 
 // Takes from the stack of open places those that the suffix at i comes before, and sets their lengths.
-fn settle(word: &[u8], lengths: &mut List, open: &mut List, i: usize) {
+fn settle(word: &[u8], lengths: &mut Ends, open: &mut Ends, i: usize) {
     for k in (0..open.as_slice().len()).rev() {
         let place = entry(open.as_slice(), k);
         if !inverse_before(tail(word, i), tail(word, place)) {
@@ -39,9 +39,9 @@ fn settle(word: &[u8], lengths: &mut List, open: &mut List, i: usize) {
 }
 
 /// The start table.
-pub fn starts_by_suffixes(word: &[u8]) -> List {
+pub fn starts_by_suffixes(word: &[u8]) -> Ends {
     let mut lengths = rests(word);
-    let mut open = List::new();
+    let mut open = Ends::new();
     for i in 0..word.len() {
         settle(word, &mut lengths, &mut open, i);
         open.push(i);

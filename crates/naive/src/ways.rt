@@ -4,7 +4,7 @@ use super::fold::pieces_by_fold;
 use super::pieces::pieces_by_definition;
 use super::strict::{starts_by_longest, strict_by_longest};
 use super::suffixes::{starts_by_suffixes, strict_by_suffixes};
-use access::List;
+use access::Ends;
 
 /// A way to answer them.
 pub trait Way {
@@ -12,13 +12,13 @@ pub trait Way {
     fn failing(word: &[u8]) -> Option<Failing>;
 
     /// The ends of the piece cut.
-    fn pieces(word: &[u8]) -> List;
+    fn pieces(word: &[u8]) -> Ends;
 
     /// The ends of the strict cut.
-    fn strict(word: &[u8]) -> List;
+    fn strict(word: &[u8]) -> Ends;
 
     /// The start table.
-    fn starts(word: &[u8]) -> List;
+    fn starts(word: &[u8]) -> Ends;
 }
 
 /// By the definitions.
@@ -29,15 +29,15 @@ impl Way for Defined {
         failing_by_trial(word)
     }
 
-    fn pieces(word: &[u8]) -> List {
+    fn pieces(word: &[u8]) -> Ends {
         pieces_by_definition(word)
     }
 
-    fn strict(word: &[u8]) -> List {
+    fn strict(word: &[u8]) -> Ends {
         strict_by_longest(word)
     }
 
-    fn starts(word: &[u8]) -> List {
+    fn starts(word: &[u8]) -> Ends {
         starts_by_longest(word)
     }
 }
@@ -50,15 +50,15 @@ impl Way for Faster {
         failing_by_suffixes(word)
     }
 
-    fn pieces(word: &[u8]) -> List {
+    fn pieces(word: &[u8]) -> Ends {
         pieces_by_fold(word)
     }
 
-    fn strict(word: &[u8]) -> List {
+    fn strict(word: &[u8]) -> Ends {
         strict_by_suffixes(word)
     }
 
-    fn starts(word: &[u8]) -> List {
+    fn starts(word: &[u8]) -> Ends {
         starts_by_suffixes(word)
     }
 }
