@@ -16,7 +16,7 @@ pub fn limited(number: usize) -> u16 {
 }
 
 /// A list of at most N numbers. There is no heap here, so it is a buffer with a count and no Vec; it is set to 0 and copied
-/// whole, so a list is no larger than it has to be.
+/// whole, so its room is a parameter.
 #[derive(Drop)]
 pub struct List<const N: usize> {
     entries: [u16; N],
