@@ -1,4 +1,5 @@
 //! Letters, entries and parts at a place, each defined for all arguments.
+ghost use Rattle.std.specs.Prelude.{◌≡◌, ◌≤◌, length};
 
 /// The mark.
 pub const SEPARATOR: u8 = 255;
@@ -22,6 +23,8 @@ pub fn part<T>(list: &[T], from: usize, end: usize) -> &[T] {
 }
 
 /// The first n, all where there are fewer.
-pub fn front<T>(list: &[T], n: usize) -> &[T] {
+pub fn front<T>(list: &[T], n: usize) -> &[T]
+    ensures { n ≤ length list.now → length result.now ≡ n }
+{
     list.get(..n).unwrap_or(list)
 }

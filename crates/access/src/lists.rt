@@ -1,4 +1,6 @@
 //! Lists of numbers, in a room of fixed size.
+ghost use Rattle.std.specs.Prelude.{◌≡◌, ◌+◌, ◌<◌, ◌≤◌, length};
+
 use super::entries::front;
 
 /// Room for the list of the longest record that is tried, 4,097 letters, and for some entries more.
@@ -34,7 +36,9 @@ pub type Breaks = List<BREAK_ENTRIES>;
 
 impl<const N: usize> List<N> {
     /// The empty list.
-    pub fn new() -> List<N> {
+    pub fn new() -> List<N>
+        ensures { result.count ≡ 0 }
+    {
         List {
             entries: [0; N],
             count: 0,
@@ -42,7 +46,9 @@ impl<const N: usize> List<N> {
     }
 
     /// Adds an entry, 65,535 for a greater number; nothing where there is no room.
-    pub fn push(&mut self, value: usize) {
+    pub fn push(&mut self, value: usize)
+        ensures { self.old.count < N → self.new.count ≡ self.old.count + 1 }
+    {
         if self.count < N {
             self.entries[self.count] = limited(value);
             self.count += 1;
@@ -50,7 +56,9 @@ impl<const N: usize> List<N> {
     }
 
     /// Adds entries, one after the other.
-    pub fn extend(&mut self, values: &[usize]) {
+    pub fn extend(&mut self, values: &[usize])
+        ensures { self.old.count + length values.now ≤ N → self.new.count ≡ self.old.count + length values.now }
+    {
         for value in values {
             self.push(*value);
         }
@@ -69,7 +77,9 @@ impl<const N: usize> List<N> {
     }
 
     /// The entries.
-    pub fn as_slice(&self) -> &[u16] {
+    pub fn as_slice(&self) -> &[u16]
+        ensures { self.now.count ≤ N → length result.now ≡ self.now.count }
+    {
         front(&self.entries, self.count)
     }
 

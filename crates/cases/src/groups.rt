@@ -1,5 +1,5 @@
 //! The groups of records, and the calls that are made on each.
-use access::{Call, front, pair_with_ones};
+use access::{Call, PAIR_ENTRIES, front, pair_with_ones};
 use naive::Faster;
 use samples::{LENGTHS, LISTS, Run, random_record, shaped_record, spell, spell_with_marks};
 use trials::{Case, RANGES, WORDS, try_cases, try_limits};
@@ -74,12 +74,12 @@ fn on_pieces(word: &[u8], pairs: &[u16], run: &mut Run) {
 // A call that is lent buffers, and what goes by the parts that it gives: of the strict pieces the list of their ends is
 // paired first.
 fn on_call(call: Call, word: &[u8], run: &mut Run) {
-    let found = naive::answer::<Faster>(call, word);
+    let found = naive::small_answer::<Faster>(call, word);
     let case = Case::lent(call, word, &found);
     try_cases(case, 1, run);
     match call {
         Call::Strict => {
-            let pairs = pair_with_ones(case.list);
+            let pairs = pair_with_ones::<PAIR_ENTRIES>(case.list);
             on_parts(word, pairs.as_slice(), run);
         }
         Call::Pieces => on_pieces(word, case.list, run),
@@ -102,7 +102,7 @@ fn on_record(word: &[u8], run: &mut Run) {
 
 // The first cases of a call at the boundaries of its refusals.
 fn at_limits(call: Call, many: usize, word: &[u8], run: &mut Run) {
-    let found = naive::answer::<Faster>(call, word);
+    let found = naive::small_answer::<Faster>(call, word);
     try_limits(Case::lent(call, word, &found), many, run);
 }
 

@@ -5,6 +5,8 @@
 
 mod groups; // the groups of records, and the calls that are made on each
 mod printing; // the lines that are printed
+#[cfg(test)]
+mod rooms; // lists longer than those of the records that are tried
 
 use groups::{Group, try_group};
 use samples::Run;

@@ -2,12 +2,16 @@
 //! cut as a word by itself, and the length of its first piece against |r| says whether it is joined. A break has five
 //! entries: the place where p ends, the place where the step began, |r|; then a and b where p stands as a piece, 256
 //! and |r| less the joined piece's length where it does not.
+ghost use Rattle.std.specs.Prelude.{◌<◌};
+
 use super::extension::Failing;
 use super::ways::Way;
 use access::{Breaks, entry, tail};
 
 // The last two entries of a break, where this is left and begins with p r.
-fn last_entries<W: Way>(rest: &[u8], found: Failing) -> [usize; 2] {
+fn last_entries<W: Way<N>, const N: usize>(rest: &[u8], found: Failing) -> [usize; 2]
+    requires { N < 65536 }
+{
     let pieces = W::pieces(tail(rest, found.prefix));
     let first = entry(pieces.as_slice(), 0);
     if first <= found.border {
@@ -17,8 +21,10 @@ fn last_entries<W: Way>(rest: &[u8], found: Failing) -> [usize; 2] {
     [entry(rest, found.border), entry(rest, last)]
 }
 
-/// The breaks, each rest tested and cut in one of the ways.
-pub fn breaks<W: Way>(word: &[u8]) -> Breaks {
+/// The breaks, each rest tested and cut in one of the ways, with room for N pieces.
+pub fn breaks<W: Way<N>, const N: usize>(word: &[u8]) -> Breaks
+    requires { N < 65536 }
+{
     let mut list = Breaks::new();
     let mut begun: usize = 0;
     while begun < word.len() {
@@ -28,7 +34,7 @@ pub fn breaks<W: Way>(word: &[u8]) -> Breaks {
         };
         let place = begun.saturating_add(found.prefix.max(1));
         list.extend(&[place, begun, found.border]);
-        list.extend(&last_entries::<W>(rest, found));
+        list.extend(&last_entries::<W, N>(rest, found));
         begun = place;
     }
     list

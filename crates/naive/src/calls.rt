@@ -1,18 +1,23 @@
 //! What those calls that are lent buffers answer on a record without marks, as lists of numbers.
+ghost use Rattle.std.specs.Prelude.{◌≡◌};
+
 use super::extension::Failing;
 use super::ways::Way;
-use access::{Breaks, Call, Ends, Pairs};
+use access::{Breaks, Call, List};
 
-/// What such a call answers: its list, and the breaks beside it.
+/// What such a call answers: its list, of at most N entries, and the breaks beside it.
 #[derive(Drop)]
-pub struct Answer {
-    pub list: Pairs,
+pub struct Answer<const N: usize> {
+    pub list: List<N>,
     pub breaks: Breaks,
 }
 
-impl Answer {
+impl<const N: usize> Answer<N> {
     /// An answer without breaks.
-    pub fn unbroken(list: Pairs) -> Answer {
+    pub fn unbroken(list: List<N>) -> Answer<N>
+        ensures list { result.list ≡ list.entry }
+        ensures breaks { result.breaks.count ≡ 0 }
+    {
         Answer {
             list,
             breaks: Breaks::new(),
@@ -40,8 +45,8 @@ pub fn needed(call: Call, n: usize, list: usize, breaks: usize) -> Room {
 }
 
 // The test's answer as a list: empty for an inverse Lyndon word, else L, |p| and |r|.
-fn verdict(failing: Option<Failing>) -> Ends {
-    let mut list = Ends::new();
+fn verdict<const N: usize>(failing: Option<Failing>) -> List<N> {
+    let mut list = List::new();
     if let Some(found) = failing {
         list.extend(&[found.length, found.prefix, found.border]);
     }
@@ -49,12 +54,12 @@ fn verdict(failing: Option<Failing>) -> Ends {
 }
 
 /// The list that a call answers on a record without marks, of the piece cut the ends alone. The breaks are no such list.
-pub fn list_of<W: Way>(call: Call, word: &[u8]) -> Ends {
+pub fn list_of<W: Way<N>, const N: usize>(call: Call, word: &[u8]) -> List<N> {
     match call {
         Call::Test => verdict(W::failing(word)),
         Call::Pieces => W::pieces(word),
         Call::Strict => W::strict(word),
         Call::Starts => W::starts(word),
-        _ => Ends::new(),
+        _ => List::new(),
     }
 }

@@ -1,7 +1,7 @@
 //! The piece cut as a fold over the strict cut, from the last factor to the first: a factor is a piece of its own where
 //! it is less than the first piece of what follows at a letter that both have; otherwise it is joined to that piece.
 use super::suffixes::strict_by_suffixes;
-use access::{Ends, entry, part};
+use access::{List, entry, part};
 
 // Whether x is less than y at a letter that both have.
 fn loses(x: &[u8], y: &[u8]) -> bool {
@@ -17,10 +17,10 @@ fn factor_start(ends: &[u16], k: usize) -> usize {
 }
 
 /// The ends of the piece cut.
-pub fn pieces_by_fold(word: &[u8]) -> Ends {
-    let strict = strict_by_suffixes(word);
+pub fn pieces_by_fold<const N: usize>(word: &[u8]) -> List<N> {
+    let strict = strict_by_suffixes::<N>(word);
     let ends = strict.as_slice();
-    let mut pieces = Ends::new();
+    let mut pieces = List::new();
     let mut end = word.len();
     pieces.push(end);
     for k in (1..ends.len()).rev() {

@@ -1,5 +1,5 @@
 //! A second implementation of the calls, by the definitions and not by the proved algorithms, for the program `cases`
-//! to compare with. Every function is safe and ends for all arguments; what it answers is not proved.
+//! to compare with. Every function is safe and ends for all arguments; what its lists hold is not proved.
 //! It uses none of the proved crates, so its types are its own, and a refusal is the number of its line.
 #![tactic(auto)]
 
@@ -19,5 +19,5 @@ mod refusals; // the table of refusals
 pub use calls::{Answer, Room, needed};
 pub use order::{Compared, common, compare_letters, compare_words};
 pub use refusals::{lent_refusal, part_refusal, range_refusal, summary_refusal};
-pub use stretches::answer;
+pub use stretches::{answer, small_answer};
 pub use ways::{Defined, Faster, Way};

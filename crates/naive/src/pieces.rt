@@ -1,7 +1,7 @@
 //! The piece cut by its recursive definition, for every suffix of the word from the shortest on.
 use super::cutting::cut_by;
 use super::extension::failing_by_suffixes;
-use access::{Ends, entry, tail};
+use access::{List, entry, tail};
 
 // The length of the first piece of a word; `firsts` has that of each proper suffix, by its length.
 fn first_piece(word: &[u8], firsts: &[u16]) -> usize {
@@ -14,8 +14,8 @@ fn first_piece(word: &[u8], firsts: &[u16]) -> usize {
 }
 
 // The length of the first piece of every suffix, the empty one's first.
-fn first_pieces(word: &[u8]) -> Ends {
-    let mut firsts = Ends::new();
+fn first_pieces<const N: usize>(word: &[u8]) -> List<N> {
+    let mut firsts = List::new();
     firsts.push(0);
     for i in (0..word.len()).rev() {
         let first = first_piece(tail(word, i), firsts.as_slice());
@@ -25,7 +25,7 @@ fn first_pieces(word: &[u8]) -> Ends {
 }
 
 /// The ends of the piece cut.
-pub fn pieces_by_definition(word: &[u8]) -> Ends {
-    let firsts = first_pieces(word);
+pub fn pieces_by_definition<const N: usize>(word: &[u8]) -> List<N> {
+    let firsts = first_pieces::<N>(word);
     cut_by(word, |rest| entry(firsts.as_slice(), rest.len()))
 }

@@ -1,11 +1,11 @@
 //! The strict cut and the start table by suffixes of the whole word: a longest anti-Lyndon word ends where the next
 //! suffix begins that comes before the suffix at its start.
 use super::order::inverse_before;
-use access::{Ends, entry, tail};
+use access::{List, entry, tail};
 
 /// The ends of the strict cut: the starts of the suffixes that come before all longer ones, and the length.
-pub fn strict_by_suffixes(word: &[u8]) -> Ends {
-    let mut ends = Ends::new();
+pub fn strict_by_suffixes<const N: usize>(word: &[u8]) -> List<N> {
+    let mut ends = List::new();
     let mut last = 0;
     for j in 1..word.len() {
         if inverse_before(tail(word, j), tail(word, last)) {
@@ -18,8 +18,8 @@ pub fn strict_by_suffixes(word: &[u8]) -> Ends {
 }
 
 // Every entry is the rest of the word, the answer for a place that no suffix after it comes before.
-fn rests(word: &[u8]) -> Ends {
-    let mut lengths = Ends::new();
+fn rests<const N: usize>(word: &[u8]) -> List<N> {
+    let mut lengths = List::new();
     for i in 0..word.len() {
         lengths.push(word.len().saturating_sub(i));
     }
@@ -27,7 +27,7 @@ fn rests(word: &[u8]) -> Ends {
 }
 
 // Takes from the stack of open places those that the suffix at i comes before, and sets their lengths.
-fn settle(word: &[u8], lengths: &mut Ends, open: &mut Ends, i: usize) {
+fn settle<const N: usize>(word: &[u8], lengths: &mut List<N>, open: &mut List<N>, i: usize) {
     for k in (0..open.as_slice().len()).rev() {
         let place = entry(open.as_slice(), k);
         if !inverse_before(tail(word, i), tail(word, place)) {
@@ -39,9 +39,9 @@ fn settle(word: &[u8], lengths: &mut Ends, open: &mut Ends, i: usize) {
 }
 
 /// The start table.
-pub fn starts_by_suffixes(word: &[u8]) -> Ends {
+pub fn starts_by_suffixes<const N: usize>(word: &[u8]) -> List<N> {
     let mut lengths = rests(word);
-    let mut open = Ends::new();
+    let mut open = List::new();
     for i in 0..word.len() {
         settle(word, &mut lengths, &mut open, i);
         open.push(i);

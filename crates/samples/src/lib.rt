@@ -10,7 +10,7 @@ mod numbers; // numbers at boundaries, and lists of them
 mod buffers; // buffers filled before a call and looked through after it
 
 pub use buffers::{fill, is_cleared, is_written};
-pub use numbers::{LISTS, about, paired_list};
+pub use numbers::{LISTS, about, paired_list, small_paired_list};
 pub use records::{LENGTHS, random_record, shaped_record, spell_with_marks};
 pub use run::{Count, Counts, Run};
 pub use shapes::spell;

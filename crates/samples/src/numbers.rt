@@ -1,6 +1,10 @@
 //! Numbers at boundaries, and the paired lists made of them.
+ghost use Rattle.std.specs.Prelude.{◌≡◌, ◌<◌, ◌≤◌};
+
 use super::shapes::spell;
-use access::{Ends, Pairs, pair_with_ones, part_length};
+use access::{
+    BREAK_ENTRIES, Breaks, ENTRIES, List, PAIR_ENTRIES, Pairs, pair_with_ones, part_length,
+};
 
 /// Eight numbers about a and b: one above a, then 0, one below b, b, one above it, the largest number, a, and one below
 /// it. Each use takes neighbours of this order.
@@ -21,11 +25,11 @@ pub fn about(a: usize, b: usize) -> [usize; 8] {
 
 // One of the 585 lists of at most three ends, each of them 0, 1, 2, 3, n − 1, n, n + 1 or the largest number: that of a
 // spelled word, a letter for each.
-fn short_list(n: usize, number: usize) -> Ends {
+fn short_list<const N: usize>(n: usize, number: usize) -> List<N> {
     let mut word = [0u8; 3];
     let count = spell(&mut word, 8, number);
     let ends = about(2, n);
-    let mut list = Ends::new();
+    let mut list = List::new();
     for letter in word.iter().take(count) {
         list.push(ends[usize::from(letter.saturating_sub(97)) % 8]);
     }
@@ -34,14 +38,16 @@ fn short_list(n: usize, number: usize) -> Ends {
 
 // A list of ends, with or without faults: first the short ones, then all places, and these with the last end or one in
 // the middle raised to the next.
-fn list_of_ends(n: usize, number: usize) -> Ends {
+fn list_of_ends<const N: usize>(n: usize, number: usize) -> List<N>
+    ensures { 585 ≤ number → number < 588 → n ≤ N → result.count ≡ n }
+{
     let raised = match number {
         585 => n,
         586 => n.saturating_sub(1),
         587 => n / 2,
         _ => return short_list(n, number),
     };
-    let mut list = Ends::new();
+    let mut list = List::new();
     for place in 0..n {
         let step = if place == raised { 2 } else { 1 };
         list.push(place.saturating_add(step));
@@ -52,11 +58,13 @@ fn list_of_ends(n: usize, number: usize) -> Ends {
 /// How many paired lists there are for a record: 588 lists of ends, five times.
 pub const LISTS: usize = 2940;
 
-/// A paired list for a record of n letters, with or without faults. The counts are 1, but the one in the middle may be
-/// 0, its part's length or one above it, or the last may be left out.
-pub fn paired_list(n: usize, number: usize) -> Pairs {
-    let ends = list_of_ends(n, number / 5);
-    let mut pairs = pair_with_ones(ends.as_slice());
+// A list of at most E ends, paired in room for N entries, and a count changed or left out. E is bounded, for the list of
+// ends to fit in memory.
+fn list_within<const E: usize, const N: usize>(n: usize, number: usize) -> List<N>
+    requires { E < 65536 }
+{
+    let ends = list_of_ends::<E>(n, number / 5);
+    let mut pairs = pair_with_ones::<N>(ends.as_slice());
     let middle = ends.as_slice().len() / 2;
     let length = part_length(pairs.as_slice(), middle);
     match number % 5 {
@@ -67,4 +75,15 @@ pub fn paired_list(n: usize, number: usize) -> Pairs {
         _ => pairs.pop(),
     }
     pairs
+}
+
+/// A paired list for a record of n letters, with or without faults. The counts are 1, but the one in the middle may be
+/// 0, its part's length or one above it, or the last may be left out. The list has as much room as the breaks.
+pub fn paired_list(n: usize, number: usize) -> Breaks {
+    list_within::<BREAK_ENTRIES, BREAK_ENTRIES>(n, number)
+}
+
+/// The same, with no more room than the records that are tried need.
+pub fn small_paired_list(n: usize, number: usize) -> Pairs {
+    list_within::<ENTRIES, PAIR_ENTRIES>(n, number)
 }

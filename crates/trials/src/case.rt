@@ -1,4 +1,6 @@
 //! What a case is made on.
+ghost use Rattle.std.specs.Prelude.{◌≡◌, ◌≤◌, length};
+
 use access::Call;
 use naive::{Answer, Room, needed};
 
@@ -14,7 +16,11 @@ pub struct Case<'a> {
 
 impl<'a> Case<'a> {
     /// A call that is lent buffers, with what it should answer.
-    pub fn lent(call: Call, word: &'a [u8], answer: &'a Answer) -> Case<'a> {
+    pub fn lent<const N: usize>(call: Call, word: &'a [u8], answer: &'a Answer<N>) -> Case<'a>
+        ensures call { result.call ≡ call }
+        ensures word { result.word.now ≡ word.now }
+        ensures list { answer.now.list.count ≤ N → length result.list.now ≡ answer.now.list.count }
+    {
         Case {
             call,
             word,

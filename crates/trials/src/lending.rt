@@ -117,7 +117,7 @@ fn is_defined(case: Case) -> bool {
     if SHORT < case.word.len() {
         return true;
     }
-    let found = naive::answer::<Defined>(case.call, case.word);
+    let found = naive::small_answer::<Defined>(case.call, case.word);
     found.list.as_slice() == case.list && found.breaks.as_slice() == case.breaks
 }
 

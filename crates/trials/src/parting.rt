@@ -1,6 +1,6 @@
 //! The reader and the summary.
 use access::{part, part_end, part_start};
-use samples::{about, paired_list};
+use samples::{about, small_paired_list};
 use summary::Summary;
 
 /// Whether the reader gives the part, or the refusal.
@@ -43,13 +43,13 @@ pub fn summary_agrees(word: &[u8], pairs: &[u16]) -> bool {
 
 /// The reader on list `code` / 5 of those with faults, at one of five numbers about the number of its pairs.
 pub fn part_agrees_at_limits(word: &[u8], code: usize) -> bool {
-    let list = paired_list(word.len(), code / 5);
+    let list = small_paired_list(word.len(), code / 5);
     let pairs = list.as_slice();
     part_agrees(word, pairs, about(0, pairs.len() / 2)[code % 5 + 1])
 }
 
 /// The summary of list `code`.
 pub fn summary_agrees_at_limits(word: &[u8], code: usize) -> bool {
-    let pairs = paired_list(word.len(), code);
+    let pairs = small_paired_list(word.len(), code);
     summary_agrees(word, pairs.as_slice())
 }
