@@ -65,7 +65,9 @@ impl<const N: usize> List<N> {
     }
 
     /// Changes the entry at a place; past the end nothing.
-    pub fn set(&mut self, at: usize, value: usize) {
+    pub fn set(&mut self, at: usize, value: usize)
+        ensures { self.new.count ≡ self.old.count }
+    {
         if at < self.count && at < N {
             self.entries[at] = limited(value);
         }

@@ -1,5 +1,6 @@
 //! A second implementation of the calls, by the definitions and not by the proved algorithms, for the program `cases`
-//! to compare with. Every function is safe and ends for all arguments; what its lists hold is not proved.
+//! to compare with. Every function is safe and ends for all arguments; what it answers is not proved, but for how many
+//! entries some lists have.
 //! It uses none of the proved crates, so its types are its own, and a refusal is the number of its line.
 #![tactic(auto)]
 

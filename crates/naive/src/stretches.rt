@@ -86,8 +86,10 @@ fn pairs<W: Way<E>, const E: usize, const N: usize>(word: &[u8]) -> List<N>
     pair_with_strict(pieces.as_slice(), strict.as_slice())
 }
 
-// What a call answers: its list has room for N entries, each list of ends or starts on the way for E. These are in no
-// argument and no answer, so E is bounded, for such a list to fit in memory.
+// What a call answers: its list has room for N entries, each list of ends or starts on the way for E. These
+// lists stand in no argument and no answer, so E is bounded, for them to fit in memory.
+// Its two names are inlined and it is not: otherwise an answer is copied once more.
+#[inline(never)]
 fn answer_within<W: Way<E>, const E: usize, const N: usize>(call: Call, word: &[u8]) -> Answer<N>
     requires { E < 65536 }
     ensures { (call ≡ Breaks → ⊥) → result.breaks.count ≡ 0 }
@@ -105,6 +107,7 @@ fn answer_within<W: Way<E>, const E: usize, const N: usize>(call: Call, word: &[
 
 /// What a call that is lent buffers answers, nothing for the others, nor for a record that the call refuses for a mark.
 /// Each list has as much room as the breaks.
+#[inline(always)]
 pub fn answer<W: Way<BREAK_ENTRIES>>(call: Call, word: &[u8]) -> Answer<BREAK_ENTRIES>
     ensures { (call ≡ Breaks → ⊥) → result.breaks.count ≡ 0 }
 {
@@ -112,6 +115,7 @@ pub fn answer<W: Way<BREAK_ENTRIES>>(call: Call, word: &[u8]) -> Answer<BREAK_EN
 }
 
 /// The same, with no more room than the records that are tried need.
+#[inline(always)]
 pub fn small_answer<W: Way<ENTRIES>>(call: Call, word: &[u8]) -> Answer<PAIR_ENTRIES>
     ensures { (call ≡ Breaks → ⊥) → result.breaks.count ≡ 0 }
 {

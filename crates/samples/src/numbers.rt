@@ -1,5 +1,5 @@
 //! Numbers at boundaries, and the paired lists made of them.
-ghost use Rattle.std.specs.Prelude.{◌≡◌, ◌<◌, ◌≤◌};
+ghost use Rattle.std.specs.Prelude.{◌≡◌, ◌*◌, ◌%◌, ◌<◌, ◌≤◌};
 
 use super::shapes::spell;
 use access::{
@@ -58,10 +58,11 @@ fn list_of_ends<const N: usize>(n: usize, number: usize) -> List<N>
 /// How many paired lists there are for a record: 588 lists of ends, five times.
 pub const LISTS: usize = 2940;
 
-// A list of at most E ends, paired in room for N entries, and a count changed or left out. E is bounded, for the list of
-// ends to fit in memory.
+// A list of at most E ends, paired in room for N entries, with or without faults. E is bounded, for the list of ends to
+// fit in memory. Its two names are inlined, so that a list is not copied once more.
 fn list_within<const E: usize, const N: usize>(n: usize, number: usize) -> List<N>
     requires { E < 65536 }
+    ensures { n ≤ E → 2 * n ≤ N → 2925 ≤ number → number < 2940 → number % 5 < 4 → result.count ≡ 2 * n }
 {
     let ends = list_of_ends::<E>(n, number / 5);
     let mut pairs = pair_with_ones::<N>(ends.as_slice());
@@ -78,12 +79,19 @@ fn list_within<const E: usize, const N: usize>(n: usize, number: usize) -> List<
 }
 
 /// A paired list for a record of n letters, with or without faults. The counts are 1, but the one in the middle may be
-/// 0, its part's length or one above it, or the last may be left out. The list has as much room as the breaks.
-pub fn paired_list(n: usize, number: usize) -> Breaks {
+/// 0, its part's length or one above it, or the last may be left out. From list 2,925 on it has an end for each place.
+/// There is as much room as for the breaks.
+#[inline(always)]
+pub fn paired_list(n: usize, number: usize) -> Breaks
+    ensures { 2 * n ≤ 20550 → 2925 ≤ number → number < 2940 → number % 5 < 4 → result.count ≡ 2 * n }
+{
     list_within::<BREAK_ENTRIES, BREAK_ENTRIES>(n, number)
 }
 
 /// The same, with no more room than the records that are tried need.
-pub fn small_paired_list(n: usize, number: usize) -> Pairs {
+#[inline(always)]
+pub fn small_paired_list(n: usize, number: usize) -> Pairs
+    ensures { n ≤ 4110 → 2925 ≤ number → number < 2940 → number % 5 < 4 → result.count ≡ 2 * n }
+{
     list_within::<ENTRIES, PAIR_ENTRIES>(n, number)
 }
